@@ -1,0 +1,16 @@
+pub mod Formula
+pub mod Text
+pub mod Sequent
+pub mod Tree
+pub mod Answer
+pub mod Split
+pub mod Zone
+pub mod Key
+pub mod Held
+pub mod Limits
+pub mod Outcome
+pub mod Search
+pub mod Parts
+pub mod Verify
+pub mod Legal
+pub mod Strict
