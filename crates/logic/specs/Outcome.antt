@@ -16,6 +16,12 @@ pub data Outcome : Type 0 where
   nothing : Outcome
   refused : Refusal → Outcome
 
+-- the outcome is no refusal
+abbrev pub Ended : Outcome → Type 0
+Ended (found t) = Unit {0}
+Ended nothing = Unit {0}
+Ended (refused r) = ⊥
+
 -- what the caller lends: the formulas held and the recorded failures (the Rust's `cache`), both in order of entry
 pub record Memory : Type 0 where
   pub held : List Formula

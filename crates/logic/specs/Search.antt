@@ -35,7 +35,7 @@ use Rattle.logic.specs.Split.{left-of, right-of}
 use Rattle.logic.specs.Zone.{total}
 use Rattle.logic.specs.Key.{sequent-key, contains}
 use Rattle.logic.specs.Held.{enter-question}
-use Rattle.logic.specs.Limits.{Limits, exceeds}
+use Rattle.logic.specs.Limits.{Limits, exceeds, off, stated}
 use Rattle.logic.specs.Outcome.{Outcome, found, nothing, refused, State, start, Search, answer, if_then_else_, _or-else_, _if-found_, visited, hit, with-held, record-failure, made, Memory}
 
 -- a rule with one premise and one with two: the premise is searched, and the node put below it
@@ -144,6 +144,14 @@ lollis = total lolli-count
 pub record Settings : Type 0 where
   pub use-cache : Bool
   pub limits : Limits
+
+-- the same call without limits: the Rust's
+abbrev pub unlimited : Settings → Settings
+unlimited settings = record { use-cache = settings .use-cache; limits = off }
+
+-- document 01's
+abbrev pub as-stated : (use-cache : Bool) (budget : ℕ) → Settings
+as-stated use-cache budget = record { use-cache = use-cache; limits = stated budget }
 
 module _ (settings : Settings) where
   module _ (deeper again : Sequent → Search) where
