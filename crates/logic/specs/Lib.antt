@@ -32,3 +32,16 @@ pub mod Counters
 pub mod Runs
 pub mod TextRead
 pub mod TextLaws
+pub mod Sorted
+pub mod SortLaws
+pub mod KeyLaws
+pub mod Principal
+pub mod PrincipalLaws
+pub mod LeafLaws
+pub mod StepLaws
+pub mod Shaped
+pub mod StrictLaws
+pub mod Everywhere
+pub mod EverywhereLaws
+pub mod ShapeLaws
+pub mod ShapeFound

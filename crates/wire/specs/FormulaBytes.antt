@@ -1,19 +1,19 @@
 -- Formulas written and read: the length of a formula's bytes, that they are bytes, that what is written reads back the same, that what was read is written as the same bytes, that reading does
 -- not look past the formula, and which refusals reading can give. Assumes nothing.
-use mathlib.Core.Path.{_≡_, refl, sym, ap, ap₂, _∙_, subst}
+use mathlib.Core.Path.{_≡_, refl, ap, ap₂, _∙_, subst}
 use mathlib.Core.List.{List, [], _∷_, _++_, append-assoc}
-use Prim.Native.Nat.{ℕ, zero, suc, _+_, _*_, _/_, _%_, _≤_, _<_, max}
+use Prim.Native.Nat.{ℕ, zero, suc, _+_, _*_, _≤_, _<_}
 use native.Mathlib.Omega.{arith}
 use lib.Arith.{digits-div, digits-mod}
 use lib.Dec.{lit<}
 use lib.ListN.{length, length-append}
 use Rattle.logic.specs.Formula.{Formula, One, Bottom, Top, Zero, Atom, NegAtom, Tensor, Par, With, Plus, Lolli, OfCourse, WhyNot, height, size}
-use Rattle.logic.specs.Answer.{Refusal, wrong-length, wrong-tag, too-high}
+use Rattle.logic.specs.Answer.{Refusal, wrong-tag}
 use Rattle.wire.specs.Write.{two-bytes, write-formula}
 use Rattle.wire.specs.Read.{Read, got, refused, _then_, entry, read-byte, read-two, Sign, unit, named, binary, unary, signs, read-parts, read-formula}
 use Rattle.wire.specs.Fits.{Bytes, NamesFit, ReadBack, Written, FormulaRefusal, cut-short, unknown-tag, too-tall}
 use Rattle.wire.specs.FitsLaws.{bytes-nil, bytes-cons, bytes-head, bytes-tail, bytes-append, bytes-left-over, bytes-two}
-use Rattle.wire.specs.Gives.{Gives, AllAt}
+use Rattle.wire.specs.Gives.{Gives, AllAt, _&_}
 use Rattle.wire.specs.GivesLaws.{gives-got, gives-refused, gives-then, gives-entry, when-got, when-refused}
 
 -- a formula's bytes are as many as its size, at least one
@@ -70,46 +70,21 @@ height-positive (WhyNot a) = omega arith
 
 signs-written : AllAt Written signs
 unfolding write-formula height
-signs-written = (
-  (refl, refl, tt),
-  (
-    (refl, refl, tt),
-    (
-      (refl, refl, tt),
-      (
-        (refl, refl, tt),
-        (
-          λ n. (refl, refl, λ h. h),
-          (
-            λ n. (refl, refl, λ h. h),
-            (
-              λ a b. (refl, refl, λ h k. (h, k)),
-              (
-                λ a b. (refl, refl, λ h k. (h, k)),
-                (
-                  λ a b. (refl, refl, λ h k. (h, k)),
-                  (
-                    λ a b. (refl, refl, λ h k. (h, k)),
-                    (
-                      λ a b. (refl, refl, λ h k. (h, k)),
-                      (
-                        λ a. (refl, refl, λ h. h),
-                        (
-                          λ a. (refl, refl, λ h. h),
-                          tt,
-                        ),
-                      ),
-                    ),
-                  ),
-                ),
-              ),
-            ),
-          ),
-        ),
-      ),
-    ),
-  ),
-)
+signs-written =
+    (refl, refl, tt)
+    & (refl, refl, tt)
+    & (refl, refl, tt)
+    & (refl, refl, tt)
+    & (λ n. (refl, refl, λ h. h))
+    & (λ n. (refl, refl, λ h. h))
+    & (λ a b. (refl, refl, λ h k. (h, k)))
+    & (λ a b. (refl, refl, λ h k. (h, k)))
+    & (λ a b. (refl, refl, λ h k. (h, k)))
+    & (λ a b. (refl, refl, λ h k. (h, k)))
+    & (λ a b. (refl, refl, λ h k. (h, k)))
+    & (λ a. (refl, refl, λ h. h))
+    & (λ a. (refl, refl, λ h. h))
+    & tt
 
 -- a number of two bytes, written and read
 pub read-write-two : (n : ℕ) (rest : List ℕ) → read-two (two-bytes n ++ rest) ≡ got n rest
@@ -173,12 +148,12 @@ write-bytes (OfCourse a) n = bytes-cons (lit< tt) (write-bytes a n)
 write-bytes (WhyNot a) n = bytes-cons (lit< tt) (write-bytes a n)
 
 -- what was read is written as the same bytes, and reading refuses for three reasons alone
-byte-gives : (bs : List ℕ) → Gives (λ b rest. bs ≡ b ∷ rest) FormulaRefusal (read-byte bs)
+pub byte-gives : (bs : List ℕ) → Gives (λ b rest. bs ≡ b ∷ rest) FormulaRefusal (read-byte bs)
 unfolding read-byte
 byte-gives [] = gives-refused cut-short
 byte-gives (b ∷ bs) = gives-got refl
 
-two-gives : (bs : List ℕ) → Gives (λ n rest. Bytes bs → (bs ≡ two-bytes n ++ rest) × (n < 65536)) FormulaRefusal (read-two bs)
+pub two-gives : (bs : List ℕ) → Gives (λ n rest. Bytes bs → (bs ≡ two-bytes n ++ rest) × (n < 65536)) FormulaRefusal (read-two bs)
 unfolding read-two
 two-gives bs =
     gives-then (byte-gives bs) λ h mid p.

@@ -15,3 +15,8 @@ pub record Gives {A : Type 0} (P : A → List ℕ → Type 0) (R : Refusal → T
 abbrev pub AllAt : {A : Type 0} → (ℕ → A → Type 0) → List A → Type 0
 AllAt W [] = Unit {0}
 AllAt W (a ∷ as′) = W zero a × AllAt (λ n. W (suc n)) as′
+
+-- a pair, for proofs of `AllAt` a line an entry
+infixr 15 _&_
+abbrev pub _&_ : {A B : Type 0} → A → B → A × B
+_&_ a b = (a, b)

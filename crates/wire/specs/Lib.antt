@@ -5,3 +5,8 @@ pub mod FitsLaws
 pub mod Gives
 pub mod GivesLaws
 pub mod FormulaBytes
+pub mod ZoneBytes
+pub mod MessageBytes
+pub mod QuestionBytes
+pub mod TreeBytes
+pub mod ReadCases

@@ -1,0 +1,4 @@
+pub mod Judge
+pub mod Formulas
+pub mod Trees
+pub mod Sessions

@@ -1,0 +1,80 @@
+//! Makes the stored list: `record FOLDER [SEED]` writes formulas.bin, trees.bin and sessions.bin, and prints what they hold.
+//! The list in answers/ is that of seed 1. Another seed gives another list, and so another comparison of the model with the Rust.
+
+use oracle::make::{formulas, sessions, trees};
+use oracle::records::{FormulaRecord, Session, TreeRecord};
+use oracle::report;
+use oracle::tree;
+use std::collections::HashSet;
+use std::path::Path;
+use std::process::exit;
+
+fn main() {
+    let Some(folder) = std::env::args().nth(1) else {
+        eprintln!("usage: record FOLDER [SEED]");
+        exit(2);
+    };
+    let seed = std::env::args().nth(2).map_or(1, |text| text.parse().expect("a seed is a number"));
+    let folder = Path::new(&folder);
+    std::fs::create_dir_all(folder).expect("the folder can be made");
+
+    let made = sessions::make(seed);
+    save(folder, "formulas.bin", &formula_bytes(seed));
+    save(folder, "trees.bin", &tree_bytes(seed, &found_trees(&made.groups)));
+    save(folder, "sessions.bin", &session_bytes(&made.groups));
+    println!(
+        "model: {} questions compared with the Rust, {} differing, {} kept out",
+        made.compared, made.differing, made.kept_out
+    );
+    exit(i32::from(made.differing > 0));
+}
+
+fn save(folder: &Path, name: &str, bytes: &[u8]) {
+    std::fs::write(folder.join(name), bytes).expect("the file can be written");
+    println!("{name}: {} bytes\n", bytes.len());
+}
+
+fn formula_bytes(seed: u64) -> Vec<u8> {
+    let mut out = Vec::new();
+    for (name, formulas) in formulas::groups(seed) {
+        let records: Vec<FormulaRecord> = formulas.iter().map(FormulaRecord::of).collect();
+        println!("formulas, {name}: {}", records.len());
+        records.iter().for_each(|record| record.write(&mut out));
+    }
+    out
+}
+
+/// Every tree found in a session, once, leaving out the few that are very long.
+fn found_trees(groups: &[(String, Vec<Session>)]) -> Vec<Vec<u8>> {
+    const LONGEST: usize = 3_000;
+    let asked = groups.iter().flat_map(|(_, sessions)| sessions).flat_map(|session| &session.asked);
+    let mut seen = HashSet::new();
+    asked.map(|asked| &asked.tree).filter(|t| !t.is_empty() && t.len() <= LONGEST && seen.insert(*t)).cloned().collect()
+}
+
+fn tree_bytes(seed: u64, found: &[Vec<u8>]) -> Vec<u8> {
+    let mut out = Vec::new();
+    let mut all = Vec::new();
+    let mut seen = HashSet::new();
+    for (name, proofs) in trees::groups(seed, found) {
+        let record = |proof| TreeRecord::of(tree::message(proof).expect("a tree fits its length field"), proof);
+        let records = proofs.iter().map(record).filter(|record| seen.insert(record.message.clone()));
+        let records: Vec<TreeRecord> = records.collect();
+        println!("trees, {name}: {}", records.len());
+        records.iter().for_each(|record| record.write(&mut out));
+        all.extend(records);
+    }
+    report::trees(&all);
+    out
+}
+
+fn session_bytes(groups: &[(String, Vec<Session>)]) -> Vec<u8> {
+    let mut out = Vec::new();
+    for (name, sessions) in groups {
+        report::sessions(name, sessions);
+        sessions.iter().for_each(|session| session.write(&mut out));
+    }
+    let all: Vec<&Session> = groups.iter().flat_map(|(_, sessions)| sessions).collect();
+    report::totals(&all);
+    out
+}
