@@ -11,6 +11,7 @@ use Rattle.logic.specs.Formula.{Formula, One, Bottom, Top, Zero, Atom, N
 use Rattle.logic.specs.FormulaLaws.{same-iff, same-self}
 use Rattle.logic.specs.Parts.{is-literal}
 use Rattle.logic.specs.Zone.{total}
+use Rattle.logic.specs.SameLaws.{same-of}
 use Rattle.logic.specs.Legal.{as-number, times, _≈_}
 use Rattle.logic.specs.Bags.{counts-itself, same-length}
 use Rattle.logic.specs.Verify.{axiom-shaped, one-shaped}
@@ -33,9 +34,6 @@ atom-unspelled n a b = refl
 neg-atom-unspelled : (n : ℕ) → Unspelled (same (NegAtom n))
 unfolding same
 neg-atom-unspelled n a b = refl
-
-same-of : {xs ys : List Formula} → xs ≡ ys → xs ≈ ys
-same-of e = record { each = λ f. ap (times spell f) e }
 
 -- a formula that counts as x is x
 counted-is : (x : Formula) → Unspelled (same x) → (f : Formula) → as-number (same x (spell f)) ≡ 1 → f ≡ x

@@ -13,6 +13,7 @@ use Rattle.logic.specs.ZoneLaws.{total-append, total-shared}
 use Rattle.logic.specs.Split.{left-of, right-of}
 use Rattle.logic.specs.Conclusion.{spell-first}
 use Rattle.logic.specs.Concludes.{concludes}
+use Rattle.logic.specs.SameLaws.{same-trans, same-of, same-sym, swap-ends, to-front, under}
 use Rattle.logic.specs.Legal.{
   as-number,
   times,
@@ -59,28 +60,7 @@ use Rattle.logic.specs.Built.{
   by-weakening,
 }
 
--- multisets
 module _ {g : Formula → Formula} where
-  same-trans : {xs ys zs : List Formula} → Same g xs ys → Same g ys zs → Same g xs zs
-  same-trans h k = record { each = λ f. h .each f ∙ k .each f }
-
-  same-of : {xs ys : List Formula} → xs ≡ ys → Same g xs ys
-  same-of e = record { each = λ f. ap (times g f) e }
-
-  same-sym : {xs ys : List Formula} → Same g xs ys → Same g ys xs
-  same-sym h = record { each = λ f. sym (h .each f) }
-
-  swap-ends : (xs ys : List Formula) → Same g (xs ++ ys) (ys ++ xs)
-  swap-ends xs ys = record { each = λ f. simp total-append (omega arith) }
-
-  to-front : (before : List Formula) (x : Formula) (after : List Formula) → Same g (before ++ (x ∷ after)) (x ∷ (before ++ after))
-  unfolding total
-  to-front before x after = record { each = λ f. simp total-append (omega arith) }
-
-  under : (x : Formula) {xs ys : List Formula} → Same g xs ys → Same g (x ∷ xs) (x ∷ ys)
-  unfolding total
-  under x h = record { each = λ f. ap (λ n. as-number (same f (g x)) + n) (h .each f) }
-
   -- what stands beside the principal formula is shared out
   share : (mask : ℕ) (xs : List Formula) → Same g xs (left-of mask xs ++ right-of mask xs)
   share mask xs = record { each = λ f. simp total-append (total-shared _ mask xs) }

@@ -21,6 +21,7 @@ pub mod Built
 pub mod Found
 pub mod Conclusion
 pub mod Concludes
+pub mod SameLaws
 pub mod LegalFound
 pub mod Places
 pub mod Balance

@@ -1,12 +1,13 @@
 -- Formulas written and read: the length of a formula's bytes, that they are bytes, that what is written reads back the same, that what was read is written as the same bytes, that reading does
 -- not look past the formula, and which refusals reading can give. Assumes nothing.
-use mathlib.Core.Path.{_≡_, refl, ap, ap₂, _∙_, subst}
+use mathlib.Core.Path.{_≡_, refl, sym, ap, ap₂, _∙_, subst}
 use mathlib.Core.List.{List, [], _∷_, _++_, append-assoc}
 use Prim.Native.Nat.{ℕ, zero, suc, _+_, _*_, _≤_, _<_}
 use native.Mathlib.Omega.{arith}
 use lib.Arith.{digits-div, digits-mod}
 use lib.Dec.{lit<}
-use lib.ListN.{length, length-append}
+use lib.ListN.{length, take, drop, length-append}
+use lib.Seq.{take-at, drop-at}
 use Rattle.logic.specs.Formula.{Formula, One, Bottom, Top, Zero, Atom, NegAtom, Tensor, Par, With, Plus, Lolli, OfCourse, WhyNot, height, size}
 use Rattle.logic.specs.Answer.{Refusal, wrong-tag}
 use Rattle.wire.specs.Write.{two-bytes, write-formula}
@@ -68,6 +69,7 @@ height-positive (Lolli a b) = omega arith
 height-positive (OfCourse a) = omega arith
 height-positive (WhyNot a) = omega arith
 
+-- each tag's entry is what is written under it: the theorems on reading go by the four shapes of an entry
 signs-written : AllAt Written signs
 unfolding write-formula height
 signs-written =
@@ -108,6 +110,7 @@ read-named : (part : List ℕ → Read Formula) (f : ℕ → Formula) (n : ℕ) 
 unfolding read-parts _then_
 read-named part f n rest = rw read-write-two
 
+-- (that names fit makes the numbers written bytes; reading them back does not depend on it)
 pub read-write : (levels : ℕ) (f : Formula) (rest : List ℕ) → height f ≤ levels → NamesFit f → read-formula levels (write-formula f ++ rest) ≡ got f rest
 unfolding read-formula read-parts read-byte _then_ entry write-formula height
 read-write zero f rest h n = absurd (omega (arith, height-positive f))
@@ -159,9 +162,11 @@ two-gives bs =
     gives-then (byte-gives bs) λ h mid p.
     gives-then (byte-gives mid) λ l rest q.
     gives-got λ bytes.
-    let both : Bytes (h ∷ l ∷ rest) = subst Bytes (p ∙ ap (λ (x : List ℕ). h ∷ x) q) bytes in
+    let front : bs ≡ h ∷ l ∷ rest = p ∙ ap (λ (x : List ℕ). h ∷ x) q in
+    let both : Bytes (h ∷ l ∷ rest) = subst Bytes front bytes in
+    let high : h < 256 = bytes-head both in
     let low : l < 256 = bytes-head (bytes-tail both) in
-    (rw (digits-div h low, digits-mod h low, p, q), omega (arith, bytes-head both))
+    (front ∙ ap (λ (x : List ℕ). x ++ rest) (sym (write-read-two h l high low)), omega arith)
 
 module _ (levels : ℕ) (part : List ℕ → Read Formula) (part-gives : (bs : List ℕ) → Gives (λ f rest. Bytes bs → ReadBack levels bs f rest) FormulaRefusal (part bs)) where
   parts-give : (t : ℕ) (s : Sign) (bs : List ℕ) → Written t s → Gives (λ f rest. Bytes (t ∷ bs) → ReadBack (suc levels) (t ∷ bs) f rest) FormulaRefusal (read-parts part s bs)
@@ -199,6 +204,17 @@ formula-gives (suc levels) bs =
 
 pub write-read : (levels : ℕ) (bs : List ℕ) (f : Formula) (rest : List ℕ) → Bytes bs → read-formula levels bs ≡ got f rest → ReadBack levels bs f rest
 write-read levels bs f rest h e = when-got (formula-gives levels bs) e h
+
+-- so a formula takes as many bytes as its size
+module _ {levels : ℕ} {bs : List ℕ} {f : Formula} {rest : List ℕ} (back : ReadBack levels bs f rest) where
+  pub read-length : length bs ≡ size f + length rest
+  read-length = ap length (back .bytes-are) ∙ length-append (write-formula f) rest ∙ ap (λ (n : ℕ). n + length rest) (length-write f)
+
+  pub read-take : take (size f) bs ≡ write-formula f
+  read-take = rw (back .bytes-are) (take-at (write-formula f) rest (size f) (length-write f))
+
+  pub read-drop : drop (size f) bs ≡ rest
+  read-drop = rw (back .bytes-are) (drop-at (write-formula f) rest (size f) (length-write f))
 
 pub read-refusals : (levels : ℕ) (bs : List ℕ) (r : Refusal) → read-formula levels bs ≡ refused r → FormulaRefusal r
 read-refusals levels bs r e = when-refused (formula-gives levels bs) e

@@ -1,5 +1,6 @@
 pub mod Write
 pub mod Read
+pub mod ReadCases
 pub mod Fits
 pub mod FitsLaws
 pub mod Gives
@@ -9,4 +10,3 @@ pub mod ZoneBytes
 pub mod MessageBytes
 pub mod QuestionBytes
 pub mod TreeBytes
-pub mod ReadCases

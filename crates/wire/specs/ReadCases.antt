@@ -8,58 +8,37 @@ use Rattle.logic.specs.Formula.{Formula, One, Atom, NegAtom, Tensor, Lolli, OfC
 use Rattle.logic.specs.Sequent.{Question, one-sided, two-sided, _﹔_}
 use Rattle.logic.specs.Tree.{Tree, node, ∅, _▹_, Axiom, Cut, TensorIntro, Blur}
 use Rattle.logic.specs.Answer.{number}
-use Rattle.wire.specs.Read.{
-  Read,
-  got,
-  refused,
-  _then_,
-  entry,
-  read-byte,
-  read-two,
-  read-parts,
-  read-formula,
-  read-formulas,
-  read-bytes,
-  zone-bytes,
-  at-end,
-  read-message,
-  read-question,
-  read-argument,
-  read-zone,
-  read-sequent,
-  read-premises,
-  read-node,
-  read-tree,
-  read-one,
-}
+use Rattle.wire.specs.Read.{Read, got, refused, _then_, entry, read-byte, read-two, read-parts, read-formula, read-formulas, read-bytes, zone-bytes, at-end, read-message, read-question, read-argument, read-zone, read-sequent, read-premises, read-node, read-tree, read-one}
 
 -- the last n bytes of a number
 abbrev hex : ℕ → ℕ → List ℕ
 hex zero x = []
 hex (suc n) x = (x / 256 ^ n % 256) ∷ hex n x
 
-data Input : Type 0 where
+pub data Input : Type 0 where
   question tree formula : List ℕ → Input
 
-data Output : Type 0 where
+pub data Output : Type 0 where
   a-question : Question → Output
   a-tree : Tree → Output
   a-formula : Formula → Output
   -- document 01's number of a refusal
   refusal : ℕ → Output
+  bytes-left : Output
 
-abbrev answer : {A : Type 0} → (A → Output) → Read A → Output
-answer f (got a rest) = f a
+abbrev pub answer : {A : Type 0} → (A → Output) → Read A → Output
+answer f (got a []) = f a
+answer f (got a (b ∷ bs)) = bytes-left
 answer f (refused r) = refusal (number r)
 
-abbrev read : Input → Output
+abbrev pub read : Input → Output
 read (question bs) = answer a-question (read-question bs)
 read (tree bs) = answer a-tree (read-tree bs)
 read (formula bs) = answer a-formula (read-one bs)
 
-record Row : Type 0 where
-  input : Input
-  output : Output
+pub record Row : Type 0 where
+  pub input : Input
+  pub output : Output
 
 infix 5 _gives_
 infix 5 _refused-by_
@@ -92,8 +71,8 @@ example =
     node TensorIntro (NegAtom 1 ∷ Tensor (Atom 1) (NegAtom 2) ∷ Atom 2 ∷ [] ﹔ [])
     (node Axiom (NegAtom 1 ∷ Atom 1 ∷ [] ﹔ []) ∅ ▹ node Axiom (Atom 2 ∷ NegAtom 2 ∷ [] ﹔ []) ∅ ▹ ∅)
 
-rows : List Row
-rows =
+pub cases : List Row
+cases =
     -- the program's example; the empty question; the tree of the program's answer
     (question (hex 21 0x01_0012_02_000A_040001_0A040001040002_0003_040002) gives a-question (two-sided (Atom 1 ∷ Lolli (Atom 1) (Atom 2) ∷ []) (Atom 2 ∷ [])))
     ∷ (question (hex 8 0x01_0005_01_0000_0000) gives a-question (one-sided [] []))
@@ -150,6 +129,6 @@ rows =
     ∷ (tree (hex 16 0x01_000D_02_0003_040001_0000_01_00_0001_0D) refused-by 4)
     ∷ []
 
-table : map (λ r. read (r .input)) rows ≡ map (λ r. r .output) rows
-unfolding rows read-question read-message read-byte read-two _then_ entry zone-bytes read-bytes at-end read-formulas read-formula read-parts read-tree read-node read-argument read-sequent read-zone read-premises read-one
-table = refl
+pub read-cases : map (λ r. read (r .input)) cases ≡ map (λ r. r .output) cases
+unfolding cases read-question read-message read-byte read-two _then_ entry zone-bytes read-bytes at-end read-formulas read-formula read-parts read-tree read-node read-argument read-sequent read-zone read-premises read-one
+read-cases = refl
