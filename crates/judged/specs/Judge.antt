@@ -8,9 +8,8 @@ use Rattle.logic.specs.Formula.{Formula, negate, desugar, is-positive}
 use Rattle.logic.specs.Text.{pretty, pretty-ascii}
 use Rattle.logic.specs.Sequent.{Question}
 use Rattle.logic.specs.Tree.{Tree, depth}
-use Rattle.logic.specs.Answer.{number}
 use Rattle.logic.specs.Key.{Key, contains}
-use Rattle.logic.specs.Outcome.{Outcome, found, nothing, refused, State, Memory}
+use Rattle.logic.specs.Outcome.{Outcome, found, nothing, refused, outcome-number, State, Memory}
 use Rattle.logic.specs.Search.{as-stated, ask}
 use Rattle.logic.specs.Verify.{Fault, invalid-rule, wrong-premise-count, context-mismatch, Verdict, accepted, rejected, fault-number, verify}
 use Rattle.wire.specs.Write.{write-formula, write-rule, write-tree}
@@ -87,11 +86,6 @@ pub data Asked : Type 0 where
 pub data SessionRow : Type 0 where
   session : (use-cache : Bool) → List Asked → SessionRow
 
-abbrev pub answer-number : Outcome → ℕ
-answer-number (found t) = 0
-answer-number nothing = 1
-answer-number (refused r) = number r
-
 abbrev pub tree-bytes : Outcome → Bytes
 tree-bytes (found t) = write-tree t
 tree-bytes nothing = []
@@ -103,7 +97,7 @@ recorded failures bytes = where-read (read-all bytes) (contains failures)
 
 abbrev pub answer-agrees : Asked → Outcome × State → Bool
 answer-agrees (asked limit question answer explored hits reached tree held new) r =
-    eqb (answer-number (r .0)) answer
+    eqb (outcome-number (r .0)) answer
     && (eqb (r .1 .explored) explored
     && (eqb (r .1 .hits) hits
     && (eqb (r .1 .reached) reached

@@ -5,7 +5,7 @@ use Prim.Native.Nat.{ℕ, suc, max}
 use lib.ListN.{length}
 use Rattle.logic.specs.Formula.{Formula}
 use Rattle.logic.specs.Tree.{Tree}
-use Rattle.logic.specs.Answer.{Refusal, held-full, failures-full}
+use Rattle.logic.specs.Answer.{Refusal, number, held-full, failures-full}
 use Rattle.logic.specs.Key.{Key, contains}
 use Rattle.logic.specs.Held.{enter}
 use Rattle.logic.specs.Limits.{Limit, exceeds}
@@ -15,6 +15,12 @@ pub data Outcome : Type 0 where
   found : Tree → Outcome
   nothing : Outcome
   refused : Refusal → Outcome
+
+-- document 01's number for an outcome
+abbrev pub outcome-number : Outcome → ℕ
+outcome-number (found t) = 0
+outcome-number nothing = 1
+outcome-number (refused r) = number r
 
 -- the outcome is no refusal
 abbrev pub Ended : Outcome → Type 0

@@ -9,6 +9,7 @@ use lib.Dec.{lit<}
 use lib.ListN.{length, take, drop, length-append}
 use lib.Seq.{take-at, drop-at}
 use Rattle.logic.specs.Formula.{Formula, One, Bottom, Top, Zero, Atom, NegAtom, Tensor, Par, With, Plus, Lolli, OfCourse, WhyNot, height, size}
+use Rattle.logic.specs.FormulaLaws.{height-positive}
 use Rattle.logic.specs.Answer.{Refusal, wrong-tag}
 use Rattle.wire.specs.Write.{two-bytes, write-formula}
 use Rattle.wire.specs.Read.{Read, got, refused, _then_, entry, read-byte, read-two, Sign, unit, named, binary, unary, signs, read-parts, read-formula}
@@ -36,38 +37,6 @@ length-write (Plus a b) = length-parts (write-formula a) (write-formula b) (leng
 length-write (Lolli a b) = length-parts (write-formula a) (write-formula b) (length-write a) (length-write b)
 length-write (OfCourse a) = ap suc (length-write a)
 length-write (WhyNot a) = ap suc (length-write a)
-
-pub size-positive : (f : Formula) → 1 ≤ size f
-unfolding size
-size-positive One = omega arith
-size-positive Bottom = omega arith
-size-positive Top = omega arith
-size-positive Zero = omega arith
-size-positive (Atom a) = omega arith
-size-positive (NegAtom a) = omega arith
-size-positive (Tensor a b) = omega arith
-size-positive (Par a b) = omega arith
-size-positive (With a b) = omega arith
-size-positive (Plus a b) = omega arith
-size-positive (Lolli a b) = omega arith
-size-positive (OfCourse a) = omega arith
-size-positive (WhyNot a) = omega arith
-
-pub height-positive : (f : Formula) → 1 ≤ height f
-unfolding height
-height-positive One = omega arith
-height-positive Bottom = omega arith
-height-positive Top = omega arith
-height-positive Zero = omega arith
-height-positive (Atom a) = omega arith
-height-positive (NegAtom a) = omega arith
-height-positive (Tensor a b) = omega arith
-height-positive (Par a b) = omega arith
-height-positive (With a b) = omega arith
-height-positive (Plus a b) = omega arith
-height-positive (Lolli a b) = omega arith
-height-positive (OfCourse a) = omega arith
-height-positive (WhyNot a) = omega arith
 
 -- each tag's entry is what is written under it: the theorems on reading go by the four shapes of an entry
 signs-written : AllAt Written signs

@@ -9,11 +9,12 @@ use lib.Seq.{take-append-seam, drop-append-seam, length-take-le}
 use borrow.Author.Tests.{leb-true, le-leb}
 use Rattle.logic.specs.Formula.{Formula, size}
 use Rattle.logic.specs.Answer.{wrong-length}
+use Rattle.logic.specs.FormulaLaws.{size-positive}
 use Rattle.wire.specs.Write.{two-bytes, write-formula, write-formulas, write-zone}
 use Rattle.wire.specs.Read.{got, _then_, read-formula, highest-formula, read-formulas, read-all, read-bytes, zone-bytes, read-zone}
 use Rattle.wire.specs.Fits.{Bytes, FormulasFit, ZoneFits, FormulasBack, ZoneBack, Framed, FormulaRefusal, cut-short}
 use Rattle.wire.specs.FitsLaws.{bytes-nil, bytes-append, bytes-left, bytes-left-over, bytes-two}
-use Rattle.wire.specs.FormulaBytes.{length-write, size-positive, read-write, write-bytes, read-write-two, two-gives, formula-gives}
+use Rattle.wire.specs.FormulaBytes.{length-write, read-write, write-bytes, read-write-two, two-gives, formula-gives}
 use Rattle.wire.specs.Gives.{Gives}
 use Rattle.wire.specs.GivesLaws.{gives-got, gives-refused, gives-then, gives-map, gives-unless}
 
