@@ -46,3 +46,4 @@ pub mod Everywhere
 pub mod EverywhereLaws
 pub mod ShapeLaws
 pub mod ShapeFound
+pub mod StrictCases
