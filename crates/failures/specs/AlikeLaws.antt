@@ -1,20 +1,18 @@
 -- Laws of alike lists of keys: an equivalence that keeps to appends; look-ups and lengths cannot tell them apart; `record-failure` does the same to both. Assumes nothing.
-use mathlib.Core.Path.{_≡_, refl, sym, ap, ap₂, _∙_}
+use mathlib.Core.Path.{_≡_, refl, ap, ap₂}
 use mathlib.Core.Bool.{Bool, true, false, So, false≢true}
 use mathlib.Core.List.{List, [], _∷_, _++_, map}
-use Prim.Native.Nat.{ℕ, suc, _<_, _≤_}
+use Prim.Native.Nat.{ℕ, zero, suc, _<_, _≤_}
 use native.Mathlib.Omega.{arith}
-use lib.ListN.{length}
-use lib.Dec.{ltb}
+use lib.ListN.{getD, length}
 use borrow.Author.Tests.{lt-ltb, le-ltb}
-use Rattle.logic.specs.Formula.{Formula}
 use Rattle.logic.specs.Key.{Key, same-bag, contains}
 use Rattle.logic.specs.Bags.{same-bag-iff}
 use Rattle.logic.specs.Legal.{Same, plain}
 use Rattle.logic.specs.SameLaws.{same-of, same-sym, same-trans}
 use Rattle.logic.specs.Answer.{failures-full}
 use Rattle.logic.specs.Limits.{Limit, at-most, exceeds}
-use Rattle.logic.specs.Outcome.{State, Outcome, nothing, refused, with-failure, record-failure, if_then_else_}
+use Rattle.logic.specs.Outcome.{State, nothing, refused, with-failure, record-failure, if_then_else_}
 use Rattle.failures.specs.Alike.{Alike, none, more}
 
 -- an equivalence
@@ -50,6 +48,11 @@ alike-map f g h (x ∷ xs) = more (h x) (alike-map f g h xs)
 pub alike-length : {ks ls : List Key} → Alike ks ls → length ks ≡ length ls
 alike-length none = refl
 alike-length (more s a) = ap suc (alike-length a)
+
+pub alike-at : {ks ls : List Key} → Alike ks ls → (i : ℕ) → Same plain (getD ks i []) (getD ls i [])
+alike-at none i = same-of refl
+alike-at (more s a) zero = s
+alike-at (more s a) (suc i) = alike-at a i
 
 -- two claims that follow from each other are told alike
 so-same : (b b′ : Bool) → (So b → So b′) → (So b′ → So b) → b ≡ b′

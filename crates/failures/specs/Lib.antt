@@ -1,2 +1,10 @@
 pub mod Alike
 pub mod AlikeLaws
+pub mod Sort
+pub mod SortLaws
+pub mod Items
+pub mod ItemsLaws
+pub mod Records
+pub mod RecordsLaws
+pub mod Failed
+pub mod FailedLaws

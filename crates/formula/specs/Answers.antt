@@ -35,7 +35,7 @@ coded answer.output-short = OutputShort
 coded answer.wrong-setting = WrongSetting
 coded answer.wrong-memory = WrongMemory
 
-unfoldable pub named : Refusal → answer.Refusal
+abbrev pub named : Refusal → answer.Refusal
 named WrongNumber = answer.wrong-number
 named WrongLength = answer.wrong-length
 named WrongTag = answer.wrong-tag
@@ -48,8 +48,8 @@ named OutputShort = answer.output-short
 named WrongSetting = answer.wrong-setting
 named WrongMemory = answer.wrong-memory
 
-abbrev pub number : Refusal → ℕ
-number r = answer.number (named r)
+abbrev pub number-of : Refusal → ℕ
+number-of r = answer.number (named r)
 
 -- a reader whose bytes end at `end`: the place after what it read, or the refusal
 unfoldable pub reads : {A : Type 0} → (end : ℕ) → wire.Read A → Read

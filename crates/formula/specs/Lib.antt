@@ -1,3 +1,9 @@
 pub mod Answers
 pub mod Reading
 pub mod ReadingLaws
+pub mod Signs
+pub mod SignsLaws
+pub mod Rewriting
+pub mod RewritingLaws
+pub mod Calls
+pub mod CallsLaws

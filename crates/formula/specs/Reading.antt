@@ -2,7 +2,8 @@
 use mathlib.Core.Path.{_≡_}
 use mathlib.Core.List.{List, [], _∷_}
 use Prim.Native.Nat.{ℕ, zero, suc, _+_, _-_, _≤_, _<_}
-use mathlib.Core.Bool.{true, false}
+use mathlib.Core.Bool.{Bool, true, false}
+use lib.ListN.{getD}
 use lib.Dec.{ltb}
 use lib.Seq.{slice}
 use Rattle.wire.specs.Read.{Sign, unit, named, binary, unary, signs, read-formula, _then_}
@@ -30,6 +31,13 @@ form-in (s ∷ ss) (suc t) = form-in ss t
 -- what a tag is followed by, by document 01's table
 abbrev pub form-of : ℕ → Form
 form-of t = form-in signs t
+
+-- whether a formula with this tag is positive
+abbrev positive-tags : List Bool
+positive-tags = true ∷ false ∷ false ∷ true ∷ true ∷ false ∷ true ∷ false ∷ false ∷ true ∷ false ∷ true ∷ false ∷ []
+
+unfoldable pub positive-tag : ℕ → Bool
+positive-tag t = getD positive-tags t false
 
 -- where no level is left
 unfoldable pub above-of : Form → Refusal

@@ -1,13 +1,20 @@
 // Formulas in bytes (document 01, "Bytes"): reading them with its refusals, and the calls on one formula, formula.rs's `negate`, `desugar` and `is_positive`.
 //
 // A formula is a tag, then its parts in order. Every call takes any bytes whatever: the whole slice is one formula, or the answer is the refusal that comes first in document 01's order.
+pub mod rewrite; // rewrite.rt: the formula rewritten byte by byte in place: copied, negated, spelled out
+
 ghost use mathlib.Core.Path.{_≡_};
 ghost use Prim.Native.Nat.{_≤_, _<_};
 ghost use lib.ListN.{length};
 ghost use lib.Seq.{slice};
+ghost use Rattle.logic.specs.Formula as of;
+ghost use Rattle.wire.specs.Write.{write-formula};
 ghost use Rattle.wire.specs.Read.{read-formula, read-one};
-ghost use Rattle.formula.specs.Answers.{reads};
-ghost use Rattle.formula.specs.Reading.{form-of, above-of, Looked};
+ghost use Rattle.formula.specs.Answers.{reads, number-of};
+ghost use Rattle.formula.specs.Calls.{Writes, positive};
+ghost use Rattle.formula.specs.Reading.{form-of, above-of, positive-tag, Looked};
+use rewrite::How;
+
 // Document 01's table "What a call can say", but for 0 and 1.
 pub enum Refusal {
     WrongNumber,
@@ -29,6 +36,18 @@ pub enum Read {
     Refused(Refusal),
 }
 
+// What a writer answers: how many bytes it wrote, from the front of the output buffer, or a refusal.
+pub enum Written {
+    Bytes(usize),
+    Refused(Refusal),
+}
+
+// What `is_positive` answers.
+pub enum Positive {
+    Is(bool),
+    Refused(Refusal),
+}
+
 // What a tag is followed by.
 pub enum Form {
     Unit,
@@ -46,6 +65,25 @@ pub enum Look {
 }
 
 pub const HIGHEST: usize = 64;
+
+// Document 01's number of a refusal.
+pub fn number(k: Refusal) -> u8
+    ensures { λ r. ⌜ r ≡ number-of k ⌝ }
+{
+    match k {
+        Refusal::WrongNumber => 2,
+        Refusal::WrongLength => 3,
+        Refusal::WrongTag => 4,
+        Refusal::TooHigh => 5,
+        Refusal::TooMany => 6,
+        Refusal::HeldFull => 7,
+        Refusal::BudgetSpent => 8,
+        Refusal::FailuresFull => 9,
+        Refusal::OutputShort => 10,
+        Refusal::WrongSetting => 11,
+        Refusal::WrongMemory => 12,
+    }
+}
 
 // Document 01's table of tags.
 pub fn form_of(tag: u8) -> Form
@@ -132,4 +170,52 @@ pub fn read_one(s: &[u8]) -> Read
         return r;
     }
     Read::Refused(Refusal::WrongLength)
+}
+
+// formula.rs: `negate`.
+pub fn negate(s: &[u8], out: &mut [u8]) -> Written
+    ensures { λ r. ⌜ Writes (λ f. write-formula (of.negate f)) (now (s .entry)) (now (out .entry)) r (now (out .exit)) ⌝ }
+{
+    rewrite::rewrite_one(s, out, How::Negate)
+}
+
+// formula.rs: `desugar`.
+pub fn desugar(s: &[u8], out: &mut [u8]) -> Written
+    ensures { λ r. ⌜ Writes (λ f. write-formula (of.desugar f)) (now (s .entry)) (now (out .entry)) r (now (out .exit)) ⌝ }
+{
+    rewrite::rewrite_one(s, out, How::Spell)
+}
+
+// By tag: whether a formula is positive.
+const POSITIVE: [bool; 13] = [
+    true,
+    false,
+    false,
+    true,
+    true,
+    false,
+    true,
+    false,
+    false,
+    true,
+    false,
+    true,
+    false,
+];
+
+fn positive_tag(tag: u8) -> bool
+    requires { ⌜ tag < 13 ⌝ }
+    ensures { λ r. ⌜ r ≡ positive-tag tag ⌝ }
+{
+    POSITIVE[tag as usize]
+}
+
+// formula.rs: `is_positive`.
+pub fn is_positive(s: &[u8]) -> Positive
+    ensures { λ r. ⌜ r ≡ positive (read-one (now (s .entry))) ⌝ }
+{
+    match read_one(s) {
+        Read::Next(_) => Positive::Is(positive_tag(s[0])),
+        Read::Refused(k) => Positive::Refused(k),
+    }
 }

@@ -1,4 +1,5 @@
-use mathlib.Core.Path.{_≡_, refl, sym, ap, _∙_}
+-- The proof of the cycle of calls {read_formula}: what is known at the tag, then the parts. The measure is the levels left. Assumes nothing.
+use mathlib.Core.Path.{sym, _∙_}
 use native.Mathlib.Omega.{arith}
 use borrow.Author.Needs.{needs}
 use Rattle.formula.specs.ReadingLaws.{done, one-goes-on, two-goes-on, one-read, first-refused, second-within, two-read}

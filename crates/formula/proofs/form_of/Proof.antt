@@ -1,6 +1,5 @@
 -- `formula::form_of` meets its contract: the code's tests on a tag are document 01's table. Assumes nothing.
 use mathlib.Core.Path.{sym}
-use native.Mathlib.Omega.{arith}
 use Rattle.formula.specs.ReadingLaws.{unit-tag, named-tag, binary-tag, unary-tag, unknown-tag}
 use Rattle.formula.proofs.form_of.Statement.{statement}
 use Rattle.formula.proofs.form_of.Tie as tie

@@ -1,14 +1,8 @@
 -- `formula::look_at` meets its contract: the answer at each tag's form is what reading a formula gives. Assumes nothing.
-use mathlib.Core.Path.{_≡_, refl, sym, ap, _∙_}
-use Prim.Native.Nat.{ℕ, _≤_, _<_}
-use native.Mathlib.Omega.{arith}
 use borrow.Author.Needs.{needs}
-use borrow.Author.Tests.{lt-ltb, le-ltb}
-use lib.ListN.{getD, length}
-use Rattle.formula.specs.Reading.{form-of, above-of, look-of, read-on, Goes-on, Looked}
+use Rattle.formula.specs.Reading.{form-of, look-of}
 use Rattle.formula.specs.ReadingLaws.{looked-none, looked-above, looked-at, looked-name, looked-short}
 use Rattle.formula.specs.declared.Form.{Form}
-use Rattle.formula.specs.declared.Form.the-variants.{Unit, Named, Binary, Unary, Unknown}
 use Rattle.formula.proofs.look_at.Statement.{statement}
 use Rattle.formula.proofs.look_at.Tie as tie
 

@@ -1,0 +1,5 @@
+pub mod Short
+pub mod ShortLaws
+pub mod InMemory
+pub mod InMemoryLaws
+pub mod Runs

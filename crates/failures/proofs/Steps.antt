@@ -1,0 +1,306 @@
+-- The loops, step by step. Assumes nothing.
+use mathlib.Core.Path.{_≡_, refl, sym, ap, _∙_}
+use mathlib.Core.Logic.{⊎-elim}
+use mathlib.Core.Bool.{Bool, true, false, not, false≢true}
+use mathlib.Core.List.{List, [], _∷_, _++_, append-assoc}
+use Prim.Native.Nat.{ℕ, zero, suc, _+_, _-_, _*_, _/_, _%_, _≤_, _<_, min, max}
+use native.Mathlib.Nat.{eq-or-lt-of-le, le-of-suc-le-suc}
+use native.Mathlib.Numerals.{add-one}
+use native.Mathlib.Omega.{arith}
+use lib.ListN.{getD, set, length, take, drop, length-set, length-drop, drop-of-length-le}
+use lib.Seq.{length-take-le, drop-cons, take-suc-set, getD-take, getD-set-same, getD-set-other, ext-getD}
+use lib.Dec.{eqb}
+use borrow.Author.Count.{below-more}
+use borrow.Author.Tests.{eqb-true, eqb-false}
+use Rattle.held.specs.Answers.{Tells}
+use Rattle.held.specs.Words.{at, count, Zeros}
+use Rattle.zones.specs.declared.Zones.{Zones}
+use Rattle.failures.specs.declared.items.Items.{Items}
+use Rattle.failures.specs.Items.{all-items, key-items, Names, Item, Listing, listed, Fits, Lists}
+use Rattle.failures.specs.ItemsLaws.{all-items-length}
+use Rattle.failures.specs.Sort.{insert, sort}
+use Rattle.failures.specs.SortLaws.{sort-length}
+use Rattle.failures.specs.Records.{size-at, item-at, items-at, record-at, Appended}
+use Rattle.failures.specs.RecordsLaws.{items-length, items-item, items-listing, listing-next}
+
+-- what a test tells
+pub told : (b : Bool) (P : Type 0) → Tells b P → b ≡ true → P
+told true P t e = t
+told false P t e = absurd (false≢true e)
+
+pub untold : (b : Bool) (P : Type 0) → Tells b P → b ≡ false → P → ⊥
+untold true P t e = absurd (false≢true (sym e))
+untold false P t e = t
+
+-- a test that tells one claim tells another that follows from it, and it from the other
+pub retold : (b : Bool) (P Q : Type 0) → (P → Q) → (Q → P) → Tells b P → Tells b Q
+retold true P Q f g t = f t
+retold false P Q f g t = λ q. t (g q)
+
+-- a test that tells that a claim does not hold
+pub refuted : (b : Bool) (P Q : Type 0) → (P → Q → ⊥) → ((P → ⊥) → Q) → Tells b P → Tells (not b) Q
+refuted true P Q f g t = f t
+refuted false P Q f g t = g t
+
+-- whether an item that is not marked is of a why-not
+pub item-told : (m : List ℕ) (x t : ℕ) → x / 2 < count m → (x % 2 ≡ 1 → ⊥) → t ≡ at m (x / 2) 0 → Tells (not (eqb t 12)) (Item m x)
+item-told m x t l h e = go (eqb t 12) refl
+  where
+    go : (b : Bool) → eqb t 12 ≡ b → Tells (not b) (Item m x)
+    go true q = λ p. p .bare (omega arith) (sym e ∙ eqb-true t 12 q)
+    go false q = record { low = l; bare = λ z w. eqb-false t 12 q (e ∙ w) }
+
+-- the loop of `inserted`: the items before place k are in order, and `carried` goes on; those from k on stand as at first
+pub record Inserting (x n : ℕ) (items₀ items : List ℕ) (carried k : ℕ) : Type 0 where
+  pub sized : length items ≡ 31
+  pub high : k ≤ n
+  pub done : take k items ++ insert carried (drop k (take n items₀)) ≡ insert x (take n items₀)
+  pub ahead : (j : ℕ) → k ≤ j → getD items j 0 ≡ getD items₀ j 0
+
+pub inserting-start : (x n : ℕ) (items : List ℕ) → length items ≡ 31 → Inserting x n items items x 0
+inserting-start x n items e = record { sized = e; high = omega arith; done = refl; ahead = λ j h. refl }
+
+module _ {x n : ℕ} {items₀ items : List ℕ} {carried k : ℕ} (p : Inserting x n items₀ items carried k) (sized₀ : length items₀ ≡ 31) (low : n < 31) where
+  pub inserting-step : k < n → Inserting x n items₀ (set items k (min carried (getD items k 0))) (max carried (getD items k 0)) (k + 1)
+  unfolding insert
+  inserting-step h =
+      let y = getD items k 0 in
+      let here : getD (take n items₀) k 0 ≡ y = getD-take n items₀ k 0 h ∙ sym (p .ahead k (omega arith)) in
+      let left : drop k (take n items₀) ≡ y ∷ drop (suc k) (take n items₀) = rw here at (drop-cons (take n items₀) k 0 (omega (arith, length-take-le n items₀ (omega arith)))) in
+      record {
+        sized = length-set items k _ ∙ p .sized;
+        high = omega arith;
+        done =
+            rw (add-one k)
+            (ap (λ (l : List ℕ). l ++ insert (max carried y) (drop (suc k) (take n items₀))) (take-suc-set items k (min carried y) (omega (arith, p .sized)))
+            ∙ append-assoc (take k items) (min carried y ∷ []) _
+            ∙ sym (ap (λ (l : List ℕ). take k items ++ insert carried l) left)
+            ∙ p .done);
+        ahead = λ j l. getD-set-other items k j _ 0 (λ e. omega arith) ∙ p .ahead j (omega arith);
+      }
+
+  pub inserting-end : n ≤ k → Lists record { items = set items n carried; len = n + 1 } (insert x (take n items₀))
+  unfolding insert
+  inserting-end h =
+      let e : k ≡ n = omega (arith, p .high) in
+      let none : drop k (take n items₀) ≡ [] = drop-of-length-le (take n items₀) {i = k} (omega (arith, length-take-le n items₀ (omega arith))) in
+      record {
+        fits = record { sized = length-set items n carried ∙ p .sized; few = omega arith };
+        list =
+            rw (add-one n)
+            (take-suc-set items n carried (omega (arith, p .sized))
+            ∙ sym (ap (λ (l : List ℕ). take n items ++ insert carried l) none)
+            ∙ ap (λ (j : ℕ). take j items ++ insert carried (drop k (take n items₀))) (sym e)
+            ∙ p .done);
+      }
+
+-- failure i and items by value
+module _ (f : List ℕ) (i : ℕ) (s : Items) (room : 33 + 32 * i ≤ length f) (few : size-at f i ≤ 31) (fits : Fits s) where
+  listed-length : length (listed s) ≡ s .len
+  listed-length = length-take-le (s .len) (s .items) (omega (arith, fits .sized, fits .few))
+
+  pub record-size : record-at f i ≡ listed s → size-at f i ≡ s .len
+  record-size e = sym (items-length f i (size-at f i) (omega arith)) ∙ ap length e ∙ listed-length
+
+  pub record-item : record-at f i ≡ listed s → (k : ℕ) → k < s .len → item-at f i k ≡ getD (s .items) k 0
+  record-item e k l =
+      sym (items-item f i (size-at f i) k (omega (arith, record-size e)))
+      ∙ ap (λ (xs : List ℕ). getD xs k 0) e
+      ∙ getD-take (s .len) (s .items) k 0 l
+
+  pub record-is : size-at f i ≡ s .len → ((k : ℕ) → k < s .len → item-at f i k ≡ getD (s .items) k 0) → record-at f i ≡ listed s
+  record-is e g =
+      let p = items-length f i (size-at f i) (omega arith) in
+      ext-getD 0 (record-at f i) (listed s) (p ∙ e ∙ sym listed-length)
+      (λ k l.
+      let l' : k < size-at f i = omega arith in
+      items-item f i (size-at f i) k l' ∙ g k (omega arith) ∙ sym (getD-take (s .len) (s .items) k 0 (omega arith)))
+
+-- the loop of `loaded`: the items before place k are copied
+pub record Loading (f : List ℕ) (i : ℕ) (items : List ℕ) (k : ℕ) : Type 0 where
+  pub sized : length items ≡ 31
+  pub high : k ≤ 31
+  pub copied : (j : ℕ) → j < k → getD items j 0 ≡ item-at f i j
+
+pub loading-start : (f : List ℕ) (i : ℕ) (items : List ℕ) → length items ≡ 31 → Loading f i items 0
+loading-start f i items e = record { sized = e; high = omega arith; copied = λ j l. absurd (omega arith) }
+
+module _ {f : List ℕ} {i : ℕ} {items : List ℕ} {k : ℕ} (p : Loading f i items k) where
+  pub loading-step : k < 31 → Loading f i (set items k (item-at f i k)) (k + 1)
+  loading-step h =
+      record {
+        sized = length-set items k _ ∙ p .sized;
+        high = omega arith;
+        copied =
+            below-more _ k
+            (λ j l. getD-set-other items k j _ 0 (λ e. omega arith) ∙ p .copied j l)
+            (getD-set-same items k _ 0 (omega (arith, p .sized)));
+      }
+
+  pub loading-end : 31 ≤ k → 33 + 32 * i ≤ length f → size-at f i ≤ 31 → Lists record { items = items; len = size-at f i } (record-at f i)
+  loading-end h room few =
+      let fits : Fits record { items = items; len = size-at f i } = record { sized = p .sized; few = few } in
+      record { fits = fits; list = sym (record-is f i record { items = items; len = size-at f i } room few fits refl (λ j l. sym (p .copied j (omega arith)))) }
+
+-- the loop of `items_fit`: the items before place k are of held formulas and never fall, and `last` is the one before place k
+pub record Fitting (m f : List ℕ) (i n last k : ℕ) : Type 0 where
+  pub high : k ≤ n
+  pub each : (j : ℕ) → j < k → Item m (item-at f i j)
+  pub rising : (j : ℕ) → suc j < k → item-at f i j ≤ item-at f i (suc j)
+  pub none : k ≡ 0 → last ≡ 0
+  pub passed : (j : ℕ) → suc j ≡ k → last ≡ item-at f i j
+
+pub fitting-start : (m f : List ℕ) (i n : ℕ) → Fitting m f i n 0 0
+fitting-start m f i n =
+    record {
+      high = omega arith;
+      each = λ j l. absurd (omega arith);
+      rising = λ j l. absurd (omega arith);
+      none = λ e. refl;
+      passed = λ j e. absurd (omega arith);
+    }
+
+module _ {m f : List ℕ} {i n last : ℕ} where
+  falls : (k : ℕ) → Fitting m f i n last k → 2 + 32 * i + n ≤ length f → k < n → item-at f i k < last → Listing m (items-at f i n) → ⊥
+  falls zero p room h l z = omega (arith, p .none refl)
+  falls (suc k) p room h l z = omega (arith, p .passed k refl, listing-next m f i n room z k h)
+
+  follows : (k : ℕ) → Fitting m f i n last k → last ≤ item-at f i k → (j : ℕ) → suc j < k + 1 → item-at f i j ≤ item-at f i (suc j)
+  follows k p l j u = ⊎-elim (λ e. let e' = sym e in rw e (omega (arith, p .passed j e))) (λ v. p .rising j v) (eq-or-lt-of-le (le-of-suc-le-suc (rw (add-one k) at u)))
+
+module _ {m f : List ℕ} {i n last k : ℕ} (p : Fitting m f i n last k) where
+  pub fitting-falls : 2 + 32 * i + n ≤ length f → k < n → item-at f i k < last → Listing m (items-at f i n) → ⊥
+  fitting-falls room h l z = falls k p room h l z
+
+  pub fitting-step : k < n → last ≤ item-at f i k → Item m (item-at f i k) → Fitting m f i n (item-at f i k) (k + 1)
+  fitting-step h l q =
+      record {
+        high = omega arith;
+        each = below-more _ k (p .each) q;
+        rising = follows k p l;
+        none = λ e. absurd (omega arith);
+        passed = λ j e. let e' : j ≡ k = omega arith in ap (item-at f i) (sym e');
+      }
+
+  pub fitting-end : 2 + 32 * i + n ≤ length f → n ≤ k → Listing m (items-at f i n)
+  fitting-end room h = items-listing m f i n room (λ j l. p .each j (omega arith)) (λ j l. p .rising j (omega arith))
+
+-- the loop of `write_record`: the items before place k are written
+pub record Writing (f₀ : List ℕ) (n : ℕ) (s : Items) (f : List ℕ) (k : ℕ) : Type 0 where
+  pub long : length f ≡ length f₀
+  pub high : k ≤ s .len
+  pub written : (j : ℕ) → j < k → item-at f n j ≡ getD (s .items) j 0
+  pub before : (j : ℕ) → j < 2 + 32 * n → getD f j 0 ≡ getD f₀ j 0
+  pub after : (j : ℕ) → 2 + 32 * n + k ≤ j → getD f j 0 ≡ getD f₀ j 0
+
+pub writing-start : (f₀ : List ℕ) (n : ℕ) (s : Items) → Writing f₀ n s f₀ 0
+writing-start f₀ n s = record { long = refl; high = omega arith; written = λ j l. absurd (omega arith); before = λ j l. refl; after = λ j l. refl }
+
+module _ {f₀ : List ℕ} {n : ℕ} {s : Items} {f : List ℕ} {k : ℕ} (p : Writing f₀ n s f k) (fits : Fits s) (room : 33 + 32 * n ≤ length f₀) where
+  pub writing-step : k < s .len → Writing f₀ n s (set f (2 + 32 * n + k) (getD (s .items) k 0)) (k + 1)
+  writing-step h =
+      record {
+        long = length-set f _ _ ∙ p .long;
+        high = omega arith;
+        written =
+            below-more _ k
+            (λ j l. getD-set-other f (2 + 32 * n + k) (2 + 32 * n + j) _ 0 (λ e. omega arith) ∙ p .written j l)
+            (getD-set-same f (2 + 32 * n + k) _ 0 (omega (arith, p .long, fits .few)));
+        before = λ j l. getD-set-other f (2 + 32 * n + k) j _ 0 (λ e. omega arith) ∙ p .before j l;
+        after = λ j l. getD-set-other f (2 + 32 * n + k) j _ 0 (λ e. omega arith) ∙ p .after j (omega arith);
+      }
+
+  -- the count of items, and the count of failures
+  abbrev counted : List ℕ
+  counted = set (set f (1 + 32 * n) (s .len)) 0 (n + 1)
+
+  counted-other : (j : ℕ) → (j ≡ 0 → ⊥) → (j ≡ 1 + 32 * n → ⊥) → getD counted j 0 ≡ getD f j 0
+  counted-other j a b = getD-set-other (set f (1 + 32 * n) (s .len)) 0 j (n + 1) 0 a ∙ getD-set-other f (1 + 32 * n) j (s .len) 0 b
+
+  counted-size : size-at counted n ≡ s .len
+  counted-size = getD-set-other (set f (1 + 32 * n) (s .len)) 0 (1 + 32 * n) (n + 1) 0 (λ e. omega arith) ∙ getD-set-same f (1 + 32 * n) (s .len) 0 (omega (arith, p .long))
+
+  counted-long : length counted ≡ length f₀
+  counted-long = length-set (set f (1 + 32 * n) (s .len)) 0 (n + 1) ∙ length-set f (1 + 32 * n) (s .len) ∙ p .long
+
+  pub writing-end : s .len ≤ k → Appended f₀ n (listed s) counted
+  writing-end h =
+      let short : length (listed s) ≡ s .len = length-take-le (s .len) (s .items) (omega (arith, fits .sized, fits .few)) in
+      record {
+        long = counted-long;
+        counted = getD-set-same (set f (1 + 32 * n) (s .len)) 0 (n + 1) 0 (omega (arith, length-set f (1 + 32 * n) (s .len), p .long));
+        size = counted-size ∙ sym short;
+        here =
+            record-is counted n s (omega (arith, counted-long)) (omega (arith, counted-size, fits .few)) fits counted-size
+            (λ j l. counted-other (2 + 32 * n + j) (λ e. omega arith) (λ e. omega arith) ∙ p .written j (omega arith));
+        before = λ j l u. counted-other j (λ e. omega arith) (λ e. omega arith) ∙ p .before j (omega arith);
+        after = λ j l. counted-other j (λ e. omega arith) (λ e. omega arith) ∙ p .after j (omega (arith, p .high));
+      }
+
+-- the loop of `clear`: the words before place k are zero
+pub record Clearing (f₀ f : List ℕ) (k : ℕ) : Type 0 where
+  pub long : length f ≡ length f₀
+  pub high : k ≤ length f₀
+  pub cleared : (j : ℕ) → j < k → getD f j 0 ≡ 0
+
+pub clearing-start : (f : List ℕ) → Clearing f f 0
+clearing-start f = record { long = refl; high = omega arith; cleared = λ j l. absurd (omega arith) }
+
+module _ {f₀ f : List ℕ} {k : ℕ} (p : Clearing f₀ f k) where
+  pub clearing-step : k < length f → Clearing f₀ (set f k 0) (k + 1)
+  clearing-step h =
+      record {
+        long = length-set f k 0 ∙ p .long;
+        high = omega (arith, p .long);
+        cleared = below-more _ k (λ j l. getD-set-other f k j 0 0 (λ e. omega arith) ∙ p .cleared j l) (getD-set-same f k 0 0 h);
+      }
+
+  pub clearing-end : length f ≤ k → Zeros f 0 (length f₀)
+  clearing-end h = record { zero = λ j l u. p .cleared j (omega (arith, p .long)) }
+
+pub zeros-to : (f : List ℕ) (n k : ℕ) → n ≡ k → Zeros f 0 n → Zeros f 0 k
+zeros-to f n k e z = record { zero = λ j l u. z .zero j l (omega arith) }
+
+-- the loop of `items_of`: the items from place i on are in order
+pub record Collecting (m : List ℕ) (z : Zones) (s : Items) (i : ℕ) : Type 0 where
+  pub high : i ≤ length (all-items m z)
+  pub lists : Lists s (sort (drop i (all-items m z)))
+  pub count : s .len + i ≡ length (all-items m z)
+
+pub collecting-start : {m : List ℕ} {z : Zones} (n : Names m z) (items : List ℕ) → length items ≡ 31 → Collecting m z record { items = items; len = 0 } (z .«linear_len» + z .«unrestricted_len»)
+unfolding sort
+collecting-start {m} {z} n items e =
+    let full = all-items-length n in
+    let none : drop (z .«linear_len» + z .«unrestricted_len») (all-items m z) ≡ [] = drop-of-length-le (all-items m z) {i = z .«linear_len» + z .«unrestricted_len»} (omega arith) in
+    record {
+      high = omega arith;
+      lists = record { fits = record { sized = e; few = omega arith }; list = sym (ap sort none) };
+      count = omega arith;
+    }
+
+module _ {m : List ℕ} {z : Zones} {s : Items} {i : ℕ} (p : Collecting m z s i) where
+  pub collecting-step : 0 < i → {r : Items} → Lists r (insert (getD (all-items m z) (i - 1) 0) (listed s)) → Collecting m z r (i - 1)
+  unfolding sort
+  collecting-step h {r} l =
+      let here : drop (i - 1) (all-items m z) ≡ getD (all-items m z) (i - 1) 0 ∷ drop (suc (i - 1)) (all-items m z) = drop-cons (all-items m z) (i - 1) 0 (omega (arith, p .high)) in
+      let next : suc (i - 1) ≡ i = omega arith in
+      let all : listed r ≡ sort (drop (i - 1) (all-items m z)) =
+      l .list
+      ∙ ap (insert (getD (all-items m z) (i - 1) 0)) (p .lists .list ∙ ap (λ (k : ℕ). sort (drop k (all-items m z))) (sym next))
+      ∙ sym (ap sort here) in
+      record {
+        high = omega (arith, p .high);
+        lists = record { fits = l .fits; list = all };
+        count =
+            omega (
+              arith,
+              ap length all,
+              sort-length (drop (i - 1) (all-items m z)),
+              length-drop (i - 1) (all-items m z),
+              length-take-le (r .len) (r .items) (omega (arith, l .fits .sized, l .fits .few)),
+              p .high,
+            );
+      }
+
+  pub collecting-end : i ≤ 0 → Lists s (key-items m z)
+  collecting-end h = let e : i ≡ 0 = omega arith in rw e at (p .lists)

@@ -1,0 +1,4 @@
+pub mod RowSteps
+pub mod EntrySteps
+pub mod LoopSteps
+pub mod TurnSteps

@@ -1,0 +1,9 @@
+pub mod Head
+pub mod HeadLaws
+pub mod EndsLaws
+pub mod Stands
+pub mod StandsLaws
+pub mod Answers
+pub mod Places
+pub mod ReadingLaws
+pub mod PlacesLaws
