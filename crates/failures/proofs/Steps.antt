@@ -37,11 +37,6 @@ pub retold : (b : Bool) (P Q : Type 0) → (P → Q) → (Q → P) → Tells b P
 retold true P Q f g t = f t
 retold false P Q f g t = λ q. t (g q)
 
--- a test that tells that a claim does not hold
-pub refuted : (b : Bool) (P Q : Type 0) → (P → Q → ⊥) → ((P → ⊥) → Q) → Tells b P → Tells (not b) Q
-refuted true P Q f g t = f t
-refuted false P Q f g t = g t
-
 -- whether an item that is not marked is of a why-not
 pub item-told : (m : List ℕ) (x t : ℕ) → x / 2 < count m → (x % 2 ≡ 1 → ⊥) → t ≡ at m (x / 2) 0 → Tells (not (eqb t 12)) (Item m x)
 item-told m x t l h e = go (eqb t 12) refl
@@ -115,32 +110,6 @@ module _ (f : List ℕ) (i : ℕ) (s : Items) (room : 33 + 32 * i ≤ length f) 
       (λ k l.
       let l' : k < size-at f i = omega arith in
       items-item f i (size-at f i) k l' ∙ g k (omega arith) ∙ sym (getD-take (s .len) (s .items) k 0 (omega arith)))
-
--- the loop of `loaded`: the items before place k are copied
-pub record Loading (f : List ℕ) (i : ℕ) (items : List ℕ) (k : ℕ) : Type 0 where
-  pub sized : length items ≡ 31
-  pub high : k ≤ 31
-  pub copied : (j : ℕ) → j < k → getD items j 0 ≡ item-at f i j
-
-pub loading-start : (f : List ℕ) (i : ℕ) (items : List ℕ) → length items ≡ 31 → Loading f i items 0
-loading-start f i items e = record { sized = e; high = omega arith; copied = λ j l. absurd (omega arith) }
-
-module _ {f : List ℕ} {i : ℕ} {items : List ℕ} {k : ℕ} (p : Loading f i items k) where
-  pub loading-step : k < 31 → Loading f i (set items k (item-at f i k)) (k + 1)
-  loading-step h =
-      record {
-        sized = length-set items k _ ∙ p .sized;
-        high = omega arith;
-        copied =
-            below-more _ k
-            (λ j l. getD-set-other items k j _ 0 (λ e. omega arith) ∙ p .copied j l)
-            (getD-set-same items k _ 0 (omega (arith, p .sized)));
-      }
-
-  pub loading-end : 31 ≤ k → 33 + 32 * i ≤ length f → size-at f i ≤ 31 → Lists record { items = items; len = size-at f i } (record-at f i)
-  loading-end h room few =
-      let fits : Fits record { items = items; len = size-at f i } = record { sized = p .sized; few = few } in
-      record { fits = fits; list = sym (record-is f i record { items = items; len = size-at f i } room few fits refl (λ j l. sym (p .copied j (omega arith)))) }
 
 -- the loop of `items_fit`: the items before place k are of held formulas and never fall, and `last` is the one before place k
 pub record Fitting (m f : List ℕ) (i n last k : ℕ) : Type 0 where

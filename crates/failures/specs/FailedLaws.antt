@@ -27,8 +27,8 @@ use Rattle.failures.specs.Alike.{Alike}
 use Rattle.failures.specs.AlikeLaws.{alike-of, alike-trans, alike-snoc, alike-length, alike-at, contains-alike, record-known, record-full, record-new}
 use Rattle.failures.specs.Items.{key-items, key-of, Listing, Names, listed, Lists}
 use Rattle.failures.specs.ItemsLaws.{keys-once, key-items-key, key-items-listing, key-items-length, key-grows}
-use Rattle.failures.specs.Records.{words, tally, size-at, item-at, record-at, first, records, Standing, WfFailures, Among, NotedTo}
-use Rattle.failures.specs.RecordsLaws.{items-length, items-item, first-length, first-at, records-appended, wf-appended, reset-records}
+use Rattle.failures.specs.Records.{words, tally, word-at, record-at, first, records, Standing, WfFailures, Among, NotedTo}
+use Rattle.failures.specs.RecordsLaws.{same-word, first-length, first-at, records-appended, wf-appended, reset-records}
 use Rattle.failures.specs.Failed.{failed, NotedAs, Recording}
 
 -- as many keys as failures
@@ -184,43 +184,12 @@ module _ {m : List ℕ} (wf : Wf m) {f f' : List ℕ} (z : WfFailures m f) (z' :
       (same-of (sym (List·getD-map (key-of (told m)) (records f) i [] ∙ ap (key-of (told m)) (first-at f (tally f) i l))))
       (same-trans (alike-at a i) (same-of (List·getD-map (key-of (told m)) (records f') i [] ∙ ap (key-of (told m)) (first-at f' (tally f') i l')))))
 
-  module _ (i : ℕ) (l : i < tally f) where
-    other : i < tally f'
-    other = omega (arith, tallies)
-
-    room : 33 + 32 * i ≤ length f
-    room = omega (arith, z .sized, z .few)
-
-    room' : 33 + 32 * i ≤ length f'
-    room' = omega (arith, z' .sized, z' .few, other)
-
-    image-size : size-at f i ≡ size-at f' i
-    image-size =
-        sym (items-length f i (size-at f i) (omega (arith, room, z .failures .stands i l .few)))
-        ∙ ap length (image-record i l)
-        ∙ items-length f' i (size-at f' i) (omega (arith, room', z' .failures .stands i other .few))
-
-    image-item : (k : ℕ) → k < 31 → item-at f i k ≡ item-at f' i k
-    image-item k u = ⊎-elim beyond inside (le-or-lt (size-at f i) k)
-      where
-        beyond : size-at f i ≤ k → item-at f i k ≡ item-at f' i k
-        beyond h =
-            z .failures .stands i l .rest .zero (2 + 32 * i + k) (omega arith) (omega arith)
-            ∙ sym (z' .failures .stands i other .rest .zero (2 + 32 * i + k) (omega (arith, image-size)) (omega arith))
-
-        inside : k < size-at f i → item-at f i k ≡ item-at f' i k
-        inside h =
-            sym (items-item f i (size-at f i) k h)
-            ∙ ap (λ xs. getD xs k 0) (image-record i l)
-            ∙ items-item f' i (size-at f' i) k (omega (arith, image-size))
-
-    image-word : (r : ℕ) → r < 32 → getD f (1 + 32 * i + r) 0 ≡ getD f' (1 + 32 * i + r) 0
-    image-word zero u =
-        let e : 1 + 32 * i + zero ≡ 1 + 32 * i = omega arith in
-        rw e image-size
-    image-word (suc r) u =
-        let e : 1 + 32 * i + suc r ≡ 2 + 32 * i + r = omega arith in
-        rw e (image-item r (omega arith))
+  image-word : (i : ℕ) → i < tally f → (k : ℕ) → k < 32 → word-at f i k ≡ word-at f' i k
+  image-word i l =
+      let l' : i < tally f' = omega (arith, tallies) in
+      let s = z .failures .stands i l in
+      let s' = z' .failures .stands i l' in
+      same-word f f' i i (omega (arith, z .sized, z .few)) (omega (arith, z' .sized, z' .few)) (s .few) (s' .few) (s .rest) (s' .rest) (image-record i l)
 
   image-at : (k : ℕ) → k < words → getD f k 0 ≡ getD f' k 0
   image-at zero l = tallies

@@ -8,3 +8,5 @@ pub mod Records
 pub mod RecordsLaws
 pub mod Failed
 pub mod FailedLaws
+pub mod Order
+pub mod OrderLaws

@@ -27,6 +27,10 @@ size-at f i = getD f (1 + 32 * i) 0
 abbrev pub item-at : List ℕ → ℕ → ℕ → ℕ
 item-at f i k = getD f (2 + 32 * i + k) 0
 
+-- word k of failure i: how many items, then the items
+abbrev pub word-at : List ℕ → ℕ → ℕ → ℕ
+word-at f i k = getD f (1 + 32 * i + k) 0
+
 -- the first n items of failure i
 abbrev pub items-at : List ℕ → ℕ → ℕ → List ℕ
 items-at f i n = take n (drop (2 + 32 * i) f)
@@ -43,21 +47,25 @@ first f (suc n) = first f n ++ (record-at f n ∷ [])
 abbrev pub records : List ℕ → List (List ℕ)
 records f = first f (tally f)
 
--- failure i may stand where it stands: its items are of formulas that the words m hold, the rest of its words are zero, and none before it has the same items
+-- failure i may stand where it stands: its items are of formulas that the words m hold, and the rest of its words are zero
 pub record Stands (m f : List ℕ) (i : ℕ) : Type 0 where
   pub few : size-at f i ≤ 31
   pub items : Listing m (record-at f i)
   pub rest : Zeros f (2 + 32 * i + size-at f i) (33 + 32 * i)
-  pub new : (j : ℕ) → j < i → record-at f j ≡ record-at f i → ⊥
 
 pub record Standing (m f : List ℕ) (n : ℕ) : Type 0 where
   pub stands : (i : ℕ) → i < n → Stands m f i
 
--- the words f are well-formed over the words m of formulas: as many as there must be, a count in range, its failures, and the rest zero
+-- no two of the first n failures have the same items
+pub record Different (f : List ℕ) (n : ℕ) : Type 0 where
+  pub apart : (i j : ℕ) → i < j → j < n → record-at f i ≡ record-at f j → ⊥
+
+-- the words f are well-formed over the words m of formulas: as many as there must be, a count in range, its failures, no failure twice, and the rest zero
 pub record WfFailures (m f : List ℕ) : Type 0 where
   pub sized : length f ≡ words
   pub few : tally f ≤ most
   pub failures : Standing m f (tally f)
+  pub once : Different f (tally f)
   pub rest : Zeros f (1 + 32 * tally f) words
 
 -- the first n failures lie within the words
@@ -65,6 +73,11 @@ pub record Sized (f : List ℕ) (n : ℕ) : Type 0 where
   pub long : length f ≡ words
   pub low : n ≤ most
   pub small : (i : ℕ) → i < n → size-at f i ≤ 31
+
+-- and the rest of their words are zero
+pub record Neat (f : List ℕ) (n : ℕ) : Type 0 where
+  pub within : Sized f n
+  pub rest : (i : ℕ) → i < n → Zeros f (2 + 32 * i + size-at f i) (33 + 32 * i)
 
 -- one of the first n failures has the items xs
 pub record Among (f : List ℕ) (n : ℕ) (xs : List ℕ) : Type 0 where

@@ -8,10 +8,11 @@ use native.Mathlib.Numerals.{add-one}
 use native.Mathlib.Omega.{arith}
 use lib.ListN.{getD, length, drop, length-append, length-drop, List·getD-append}
 use lib.Seq.{length-take-le, getD-take, getD-drop, getD-at, ext-getD}
+use Rattle.held.specs.OrderLaws.{le-or-lt}
 use Rattle.held.specs.Words.{Zeros, Extends}
 use Rattle.failures.specs.Items.{Item, Listing}
 use Rattle.failures.specs.ItemsLaws.{listing-grows}
-use Rattle.failures.specs.Records.{most, words, tally, size-at, item-at, items-at, record-at, first, records, Stands, Standing, WfFailures, Sized, Among, Appended}
+use Rattle.failures.specs.Records.{most, words, tally, size-at, item-at, word-at, items-at, record-at, first, records, Stands, Standing, WfFailures, Sized, Neat, Among, Appended}
 
 -- the first n items of failure i
 pub items-length : (f : List ℕ) (i n : ℕ) → 2 + 32 * i + n ≤ length f → length (items-at f i n) ≡ n
@@ -37,19 +38,48 @@ listing-next m f i n h z k l =
     let l' : k < n = omega arith in
     rw (items-item f i n k l', items-item f i n (suc k) l) at (z .rising .next k (omega (arith, items-length f i n h)))
 
--- failures whose words are the same
-pub items-same : (f f' : List ℕ) (i n : ℕ) → 2 + 32 * i + n ≤ length f → length f' ≡ length f → ((k : ℕ) → k < n → item-at f' i k ≡ item-at f i k) → items-at f' i n ≡ items-at f i n
-items-same f f' i n h e g =
-    let p = items-length f i n h in
-    let q = items-length f' i n (omega arith) in
-    ext-getD 0 (items-at f' i n) (items-at f i n) (q ∙ sym p) (λ k l. let l' : k < n = omega arith in items-item f' i n k l' ∙ g k l' ∙ sym (items-item f i n k l'))
+-- word by word
+word-size : (f : List ℕ) (i : ℕ) → word-at f i 0 ≡ size-at f i
+word-size f i = let e : 1 + 32 * i + 0 ≡ 1 + 32 * i = omega arith in ap (λ n. getD f n 0) e
 
+word-item : (f : List ℕ) (i k : ℕ) → word-at f i (suc k) ≡ item-at f i k
+word-item f i k = let e : 1 + 32 * i + suc k ≡ 2 + 32 * i + k = omega arith in ap (λ n. getD f n 0) e
+
+-- failures whose words are the same have the same items
 pub record-same :
-    (f f' : List ℕ) (i : ℕ) → size-at f i ≤ 31 → 33 + 32 * i ≤ length f → length f' ≡ length f → ((k : ℕ) → 1 + 32 * i ≤ k → k < 33 + 32 * i → getD f' k 0 ≡ getD f k 0) →
-    record-at f' i ≡ record-at f i
-record-same f f' i s h e g =
-    ap (items-at f' i) (g (1 + 32 * i) (omega arith) (omega arith))
-    ∙ items-same f f' i (size-at f i) (omega arith) e (λ k l. g (2 + 32 * i + k) (omega arith) (omega arith))
+    (f f' : List ℕ) (i i' : ℕ) → size-at f i ≤ 31 → 33 + 32 * i ≤ length f → 33 + 32 * i' ≤ length f' → ((k : ℕ) → k < 32 → word-at f' i' k ≡ word-at f i k) →
+    record-at f' i' ≡ record-at f i
+record-same f f' i i' s h h' g =
+    let e : size-at f' i' ≡ size-at f i = sym (word-size f' i') ∙ g 0 (omega arith) ∙ word-size f i in
+    let p = items-length f i (size-at f i) (omega arith) in
+    let q = items-length f' i' (size-at f' i') (omega arith) in
+    ext-getD 0 (record-at f' i') (record-at f i) (q ∙ e ∙ sym p)
+    (λ k l.
+    items-item f' i' (size-at f' i') k (omega arith)
+    ∙ sym (word-item f' i' k)
+    ∙ g (suc k) (omega arith)
+    ∙ word-item f i k
+    ∙ sym (items-item f i (size-at f i) k (omega arith)))
+
+-- and the other way round, where the rest of their words are zero
+module _
+    (f f' : List ℕ) (i i' : ℕ) (room : 33 + 32 * i ≤ length f) (room' : 33 + 32 * i' ≤ length f') (few : size-at f i ≤ 31) (few' : size-at f' i' ≤ 31)
+    (rest : Zeros f (2 + 32 * i + size-at f i) (33 + 32 * i)) (rest' : Zeros f' (2 + 32 * i' + size-at f' i') (33 + 32 * i')) (e : record-at f i ≡ record-at f' i') where
+  same-size : size-at f i ≡ size-at f' i'
+  same-size = sym (items-length f i (size-at f i) (omega arith)) ∙ ap length e ∙ items-length f' i' (size-at f' i') (omega arith)
+
+  same-item : (k : ℕ) → k < 31 → item-at f i k ≡ item-at f' i' k
+  same-item k u = ⊎-elim beyond inside (le-or-lt (size-at f i) k)
+    where
+      beyond : size-at f i ≤ k → item-at f i k ≡ item-at f' i' k
+      beyond h = rest .zero (2 + 32 * i + k) (omega arith) (omega arith) ∙ sym (rest' .zero (2 + 32 * i' + k) (omega (arith, same-size)) (omega arith))
+
+      inside : k < size-at f i → item-at f i k ≡ item-at f' i' k
+      inside h = sym (items-item f i (size-at f i) k h) ∙ ap (λ xs. getD xs k 0) e ∙ items-item f' i' (size-at f' i') k (omega (arith, same-size))
+
+  pub same-word : (k : ℕ) → k < 32 → word-at f i k ≡ word-at f' i' k
+  same-word zero u = word-size f i ∙ same-size ∙ sym (word-size f' i')
+  same-word (suc k) u = word-item f i k ∙ same-item k (omega arith) ∙ sym (word-item f' i' k)
 
 -- the first n failures
 pub first-length : (f : List ℕ) (n : ℕ) → length (first f n) ≡ n
@@ -74,13 +104,18 @@ first-same f f' (suc n) g = ap₂ (λ fs x. fs ++ (x ∷ [])) (first-same f f' n
 pub standing-sized : {m f : List ℕ} {n : ℕ} → length f ≡ words → n ≤ most → Standing m f n → Sized f n
 standing-sized e l z = record { long = e; low = l; small = λ i u. z .stands i u .few }
 
+pub standing-neat : {m f : List ℕ} {n : ℕ} → length f ≡ words → n ≤ most → Standing m f n → Neat f n
+standing-neat e l z = record { within = standing-sized e l z; rest = λ i u. z .stands i u .rest }
+
 pub wf-sized : {m f : List ℕ} → WfFailures m f → Sized f (tally f)
 wf-sized z = standing-sized (z .sized) (z .few) (z .failures)
 
 -- a failure more: the others stay as they are, and it stands last
 module _ {m f : List ℕ} {xs f' : List ℕ} (z : WfFailures m f) (room : tally f < most) (a : Appended f (tally f) xs f') where
   record-kept : (i : ℕ) → i < tally f → record-at f' i ≡ record-at f i
-  record-kept i l = record-same f f' i (z .failures .stands i l .few) (omega (arith, z .sized)) (a .long) (λ k u v. a .before k (omega arith) (omega arith))
+  record-kept i l =
+      record-same f f' i i (z .failures .stands i l .few) (omega (arith, z .sized)) (omega (arith, z .sized, a .long))
+      (λ k u. a .before (1 + 32 * i + k) (omega arith) (omega arith))
 
   pub records-appended : records f' ≡ records f ++ (xs ∷ [])
   unfolding first
@@ -94,6 +129,7 @@ module _ {m f : List ℕ} {xs f' : List ℕ} (z : WfFailures m f) (room : tally 
         sized = a .long ∙ z .sized;
         few = omega (arith, a .counted);
         failures = record { stands = λ i l. ⊎-elim last old (eq-or-lt-of-le (le-of-suc-le-suc (rw (a .counted ∙ add-one (tally f)) at l))) };
+        once = record { apart = λ i j l u. ⊎-elim (new-apart i j l) (old-apart i j l) (eq-or-lt-of-le (le-of-suc-le-suc (rw (a .counted ∙ add-one (tally f)) at u))) };
         rest = record { zero = λ k h l. a .after k (omega (arith, a .counted)) ∙ z .rest .zero k (omega (arith, a .counted)) l };
       }
     where
@@ -105,7 +141,6 @@ module _ {m f : List ℕ} {xs f' : List ℕ} (z : WfFailures m f) (room : tally 
             few = omega (arith, s .few);
             items = rw (record-kept i l) (s .items);
             rest = record { zero = λ k h u. a .before k (omega arith) (omega arith) ∙ s .rest .zero k (omega arith) u };
-            new = λ j u q. s .new j u (sym (record-kept j (omega arith)) ∙ q ∙ record-kept i l);
           }
 
       last : {i : ℕ} → i ≡ tally f → Stands m f' i
@@ -115,8 +150,13 @@ module _ {m f : List ℕ} {xs f' : List ℕ} (z : WfFailures m f) (room : tally 
             few = omega (arith, a .size);
             items = rw (a .here) listing;
             rest = record { zero = λ k h u. a .after k (omega (arith, a .size)) ∙ z .rest .zero k (omega arith) (omega arith) };
-            new = λ j u q. new record { place = j; low = u; here = sym (record-kept j u) ∙ q ∙ a .here };
           }
+
+      old-apart : (i j : ℕ) → i < j → j < tally f → record-at f' i ≡ record-at f' j → ⊥
+      old-apart i j l u q = z .once .apart i j l u (sym (record-kept i (omega arith)) ∙ q ∙ record-kept j u)
+
+      new-apart : (i j : ℕ) → i < j → j ≡ tally f → record-at f' i ≡ record-at f' j → ⊥
+      new-apart i j l e q = new record { place = i; low = omega arith; here = sym (record-kept i (omega arith)) ∙ q ∙ ap (record-at f') e ∙ a .here }
 
 -- more formulas held
 pub failures-grow : {m m' f : List ℕ} → Extends m m' → WfFailures m f → WfFailures m' f
@@ -124,7 +164,8 @@ failures-grow grew z =
     record {
       sized = z .sized;
       few = z .few;
-      failures = record { stands = λ i l. let s = z .failures .stands i l in record { few = s .few; items = listing-grows grew (s .items); rest = s .rest; new = s .new } };
+      failures = record { stands = λ i l. let s = z .failures .stands i l in record { few = s .few; items = listing-grows grew (s .items); rest = s .rest } };
+      once = z .once;
       rest = z .rest;
     }
 
@@ -136,6 +177,7 @@ reset-wf m {f'} e z =
       sized = e;
       few = omega arith;
       failures = record { stands = λ i l. absurd (omega arith) };
+      once = record { apart = λ i j l u. absurd (omega arith) };
       rest = record { zero = λ k h l. z .zero k (omega arith) l };
     }
 

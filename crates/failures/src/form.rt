@@ -4,12 +4,11 @@ ghost use Prim.Native.Nat.{_<_, _≤_};
 ghost use lib.ListN.{length};
 ghost use Rattle.held.specs.Answers.{Tells};
 ghost use Rattle.held.specs.Words.{Wf, Zeros};
-ghost use Rattle.failures.specs.Items.{Item, Listing, Lists};
-ghost use Rattle.failures.specs.Records.{most, words, size-at, items-at, record-at, Stands, Standing, WfFailures, ResetTo};
+ghost use Rattle.failures.specs.Items.{Item, Listing};
+ghost use Rattle.failures.specs.Records.{most, words, items-at, Stands, Standing, WfFailures, ResetTo};
 use super::MOST;
 use super::WORDS;
-use super::items::Items;
-use super::records::is_among;
+use super::order::different;
 use held::entry::zeros;
 use held::words::field;
 
@@ -50,24 +49,9 @@ fn items_fit(held: &[u16], fail: &[u16], i: usize, n: usize) -> bool
     true
 }
 
-// The items of failure i.
-fn loaded(fail: &[u16], i: usize) -> Items
-    requires { ⌜ ((i < most) × (length (now fail) ≡ words)) × (size-at (now fail) i ≤ 31) ⌝ }
-    ensures { λ r. ⌜ Lists r (record-at (now (fail .entry)) i) ⌝ }
-{
-    let len = fail[1 + 32 * i] as usize;
-    let mut items = [0u16; 31];
-    let mut k = 0;
-    while k < 31 {
-        items[k] = fail[2 + 32 * i + k];
-        k += 1;
-    }
-    Items { items, len }
-}
-
 // Whether failure i may stand where it stands.
 fn record_fits(held: &[u16], fail: &[u16], i: usize) -> bool
-    requires { ⌜ (Wf (now held) × (length (now fail) ≡ words)) × ((i < most) × Standing (now held) (now fail) i) ⌝ }
+    requires { ⌜ (Wf (now held) × (length (now fail) ≡ words)) × (i < most) ⌝ }
     ensures { λ r. ⌜ Tells r (Stands (now (held .entry)) (now (fail .entry)) i) ⌝ }
 {
     let n = fail[1 + 32 * i] as usize;
@@ -77,10 +61,7 @@ fn record_fits(held: &[u16], fail: &[u16], i: usize) -> bool
     if !items_fit(held, fail, i, n) {
         return false;
     }
-    if !zeros(fail, 2 + 32 * i + n, 33 + 32 * i) {
-        return false;
-    }
-    !is_among(fail, i, loaded(fail, i))
+    zeros(fail, 2 + 32 * i + n, 33 + 32 * i)
 }
 
 // Whether the first n failures may stand where they stand.
@@ -111,6 +92,9 @@ pub fn well_formed(held: &[u16], fail: &[u16]) -> bool
         return false;
     }
     if !records_fit(held, fail, n) {
+        return false;
+    }
+    if !different(fail, n) {
         return false;
     }
     zeros(fail, 1 + 32 * n, WORDS)

@@ -3,6 +3,7 @@
 // Any words may be lent: `well_formed` tells whether they are of this form.
 pub mod items; // items.rt: the key of a sequent as ordered items
 pub mod records; // records.rt: looking a failure up, and recording it
+pub mod order; // order.rt: the test that no failure stands twice
 pub mod form; // form.rt: the well-formed test, and reset
 
 // What became of a failure that was to be recorded.

@@ -6,3 +6,4 @@ pub mod Words
 pub mod WordsLaws
 pub mod Answers
 pub mod Turn
+pub mod WholeLaws

@@ -384,10 +384,14 @@ fit-joined ∅ us h k = k
 fit-joined (t ▹ ts) us h k = (h .0, fit-joined ts us (h .1) k)
 
 -- each tree takes a byte
+pub node-long : (t : Tree) → 1 ≤ length (write-node t)
+unfolding write-node
+node-long (node r q ps) = rw write-rule-is (simp length-append (omega arith))
+
 trees-long : (ts : Trees) → premise-count ts ≤ length (write-nodes ts)
-unfolding premise-count write-nodes write-node
+unfolding premise-count write-nodes
 trees-long ∅ = omega arith
-trees-long (node r q ps ▹ ts) = rw write-rule-is (simp length-append (omega (arith, trees-long ts)))
+trees-long (t ▹ ts) = omega (arith, length-append (write-node t) (write-nodes ts), node-long t, trees-long ts)
 
 module _ (s : List ℕ) (at : ℕ) where
   pub passing-start : at ≤ length s → Passing s at 1 at

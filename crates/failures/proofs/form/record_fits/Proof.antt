@@ -1,11 +1,9 @@
 -- `failures::form::record_fits` meets its contract. Assumes nothing.
-use mathlib.Core.Path.{sym, _∙_}
 use Prim.Native.Nat.{_+_, _*_}
 use native.Mathlib.Omega.{arith}
 use borrow.Author.Tests.{not-true, not-false}
 use borrow.Author.Needs.{needs}
-use Rattle.failures.specs.RecordsLaws.{standing-sized}
-use Rattle.failures.proofs.Steps.{told, untold, refuted}
+use Rattle.failures.proofs.Steps.{told, untold, retold}
 use Rattle.failures.proofs.form.record_fits.Statement.{statement}
 use Rattle.failures.proofs.form.record_fits.Tie as tie
 
@@ -52,29 +50,16 @@ zeros-requires : tie.Need-zeros-requires
 zeros-requires c κs = search needs
 
 returns-3 : tie.Need-returns-3
-returns-3 c = λ z. untold (c .before .zeros .result) _ (c .before .zeros .ensures) (not-true _ (c .if3 .taken)) (z .rest)
-
-loaded-requires : tie.Need-loaded-requires
-loaded-requires c κs = search needs
-
-is-among-requires : tie.Need-is-among-requires
-is-among-requires c κs =
-    let start = c .before .before .before .before .before .before .before .before .before in
-    (standing-sized (start .pre .0 .1) (omega arith) (start .pre .1 .1), c .loaded .ensures .fits)
-
-returns-4 : tie.Need-returns-4
-returns-4 c =
-    let list = c .before .loaded .ensures .list in
-    refuted (c .is-among .result) _ _
-    (λ a z. z .new (a .place) (a .low) (a .here ∙ list))
-    (λ h.
+returns-3 c =
+    retold (c .zeros .result) _ _
+    (λ z.
     record {
-      few = c .before .before .before .before .before .before .if1 .left;
-      items = told (c .before .before .before .before .before .items-fit .result) _ (c .before .before .before .before .before .items-fit .ensures) (not-false _ (c .before .before .before .before .if2 .left));
-      rest = told (c .before .before .before .zeros .result) _ (c .before .before .before .zeros .ensures) (not-false _ (c .before .before .if3 .left));
-      new = λ j l e. h record { place = j; low = l; here = e ∙ sym list };
+      few = c .before .before .before .if1 .left;
+      items = told (c .before .before .items-fit .result) _ (c .before .before .items-fit .ensures) (not-false _ (c .before .if2 .left));
+      rest = z;
     })
-    (c .is-among .ensures)
+    (λ s. s .rest)
+    (c .zeros .ensures)
 
 pub record-fits-spec : {M : Type 1} → statement M
 record-fits-spec =
@@ -94,7 +79,4 @@ record-fits-spec =
     mul-zeros-2
     add-zeros-3
     zeros-requires
-    returns-3
-    loaded-requires
-    is-among-requires
-    returns-4)
+    returns-3)

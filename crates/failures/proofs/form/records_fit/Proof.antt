@@ -19,9 +19,7 @@ loop-holds : tie.Need-loop-holds Inv-loop μ-loop
 loop-holds c = (omega arith, below-none _)
 
 record-fits-requires : tie.Need-record-fits-requires Inv-loop μ-loop
-record-fits-requires c κs =
-    let start = c .before .before .before .before in
-    (start .pre .0, (omega arith, record { stands = c .before .loop .inv .1 }))
+record-fits-requires c κs = (c .before .before .before .before .pre .0, omega arith)
 
 returns : tie.Need-returns Inv-loop μ-loop
 returns c =

@@ -2,6 +2,7 @@
 use native.Mathlib.Omega.{arith}
 use borrow.Author.Tests.{not-true, not-false}
 use borrow.Author.Needs.{needs}
+use Rattle.failures.specs.RecordsLaws.{standing-neat}
 use Rattle.failures.proofs.Steps.{told, untold, retold}
 use Rattle.failures.proofs.form.well_formed.Statement.{statement}
 use Rattle.failures.proofs.form.well_formed.Tie as tie
@@ -24,6 +25,13 @@ records-fit-requires c κs = search needs
 returns-3 : tie.Need-returns-3
 returns-3 c = λ z. untold (c .before .records-fit .result) _ (c .before .records-fit .ensures) (not-true _ (c .if3 .taken)) (z .failures)
 
+different-requires : tie.Need-different-requires
+different-requires c κs =
+    standing-neat (omega arith) (omega arith) (told (c .before .records-fit .result) _ (c .before .records-fit .ensures) (not-false _ (c .if3 .left)))
+
+returns-4 : tie.Need-returns-4
+returns-4 c = λ z. untold (c .before .different .result) _ (c .before .different .ensures) (not-true _ (c .if4 .taken)) (z .once)
+
 mul-zeros : tie.Need-mul-zeros
 mul-zeros c = search needs
 
@@ -33,14 +41,15 @@ add-zeros c = search needs
 zeros-requires : tie.Need-zeros-requires
 zeros-requires c κs = search needs
 
-returns-4 : tie.Need-returns-4
-returns-4 c =
+returns-5 : tie.Need-returns-5
+returns-5 c =
     retold (c .zeros .result) _ _
     (λ z.
     record {
       sized = omega arith;
       few = omega arith;
-      failures = told (c .before .before .records-fit .result) _ (c .before .before .records-fit .ensures) (not-false _ (c .before .if3 .left));
+      failures = told (c .before .before .before .before .records-fit .result) _ (c .before .before .before .before .records-fit .ensures) (not-false _ (c .before .before .before .if3 .left));
+      once = told (c .before .before .different .result) _ (c .before .before .different .ensures) (not-false _ (c .before .if4 .left));
       rest = z;
     })
     (λ w. w .rest)
@@ -56,7 +65,9 @@ well-formed-spec =
     returns-2
     records-fit-requires
     returns-3
+    different-requires
+    returns-4
     mul-zeros
     add-zeros
     zeros-requires
-    returns-4)
+    returns-5)

@@ -1,0 +1,5 @@
+pub mod Verdicts
+pub mod Shapes
+pub mod Walks
+pub mod ShapesLaws
+pub mod WalksLaws
