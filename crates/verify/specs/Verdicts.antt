@@ -44,7 +44,7 @@ checked test (refused k) = verified.Refused (answers.coded k)
 -- document 01's number
 unfoldable pub answer-number : Verified → ℕ
 answer-number verified.Accepted = 0
-answer-number (verified.Refused k) = answers.number k
+answer-number (verified.Refused k) = answers.number-of k
 answer-number (verified.Invalid r n w) = 13
 answer-number (verified.WrongCount r n w expected given) = 14
 answer-number (verified.Mismatch r n w) = 15

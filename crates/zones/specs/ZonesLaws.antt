@@ -23,6 +23,9 @@ remove-snoc xs i a h = rw (take-append-le i xs (a ∷ []) (omega arith), drop-ap
 pub remove-length : (xs : List ℕ) (i : ℕ) → i < length xs → length (remove i xs) + 1 ≡ length xs
 remove-length xs i h = omega (arith, length-append (take i xs) (drop (suc i) xs), length-take-le i xs (omega arith), length-drop (suc i) xs)
 
+pub replace-length : (xs : List ℕ) (i a : ℕ) → i < length xs → length (replace i a xs) ≡ length xs
+replace-length xs i a h = omega (arith, length-append (take i xs) (a ∷ drop (suc i) xs), length-take-le i xs (omega arith), length-drop (suc i) xs)
+
 pub part-length : (side mask : ℕ) (xs : List ℕ) → length (part side mask xs) ≤ length xs
 unfolding part
 part-length side mask [] = omega arith
@@ -49,6 +52,48 @@ module _ {z : Zones} (f : Fits z) where
     linear-count = sym linears-length ∙ ap length g;
     unrestricted-count = sym unrestricteds-length ∙ ap length t;
   }
+
+-- how many formulas an operation leaves in each zone
+module _ {z r : Zones} (f : Fits z) where
+  pub without-count : {i : ℕ} → Made z (without i) r → i < z .«linear_len» → (r .«linear_len» + 1 ≡ z .«linear_len») × (r .«unrestricted_len» ≡ z .«unrestricted_len»)
+  without-count {i} m h =
+      (omega (arith, m .linear-count, remove-length (linears z) i (omega (arith, linears-length f)), linears-length f), m .unrestricted-count ∙ unrestricteds-length f)
+
+  pub replaced-count : {i a : ℕ} → Made z (replaced i a) r → i < z .«linear_len» → (r .«linear_len» ≡ z .«linear_len») × (r .«unrestricted_len» ≡ z .«unrestricted_len»)
+  replaced-count {i} {a} m h =
+      (omega (arith, m .linear-count, replace-length (linears z) i a (omega (arith, linears-length f)), linears-length f), m .unrestricted-count ∙ unrestricteds-length f)
+
+  pub pushed-count : {a : ℕ} → Made z (pushed a) r → (r .«linear_len» ≡ z .«linear_len» + 1) × (r .«unrestricted_len» ≡ z .«unrestricted_len»)
+  pushed-count {a} m = (omega (arith, m .linear-count, length-append (linears z) (a ∷ []), linears-length f), m .unrestricted-count ∙ unrestricteds-length f)
+
+  pub only-count : {a : ℕ} → Made z (only a) r → (r .«linear_len» ≡ 1) × (r .«unrestricted_len» ≡ z .«unrestricted_len»)
+  only-count m = (m .linear-count, m .unrestricted-count ∙ unrestricteds-length f)
+
+  pub split-count : {side i mask a : ℕ} → Made z (split side i mask a) r → i < z .«linear_len»
+      → (r .«linear_len» ≤ z .«linear_len») × (r .«unrestricted_len» ≡ z .«unrestricted_len»)
+  split-count {side} {i} {mask} {a} m h = (
+    omega (
+      arith,
+      m .linear-count,
+      length-append (part side mask (remove i (linears z))) (a ∷ []),
+      part-length side mask (remove i (linears z)),
+      remove-length (linears z) i (omega (arith, linears-length f)),
+      linears-length f,
+    ),
+    m .unrestricted-count ∙ unrestricteds-length f,
+  )
+
+  pub without-unrestricted-count : {i : ℕ} → Made z (without-unrestricted i) r → i < z .«unrestricted_len»
+      → (r .«linear_len» ≡ z .«linear_len») × (r .«unrestricted_len» + 1 ≡ z .«unrestricted_len»)
+  without-unrestricted-count {i} m h = (
+    m .linear-count ∙ linears-length f,
+    omega (arith, m .unrestricted-count, remove-length (unrestricteds z) i (omega (arith, unrestricteds-length f)), unrestricteds-length f),
+  )
+
+  pub pushed-unrestricted-count : {a : ℕ} → Made z (pushed-unrestricted a) r
+      → (r .«linear_len» ≡ z .«linear_len») × (r .«unrestricted_len» ≡ z .«unrestricted_len» + 1)
+  pushed-unrestricted-count {a} m =
+      (m .linear-count ∙ linears-length f, omega (arith, m .unrestricted-count, length-append (unrestricteds z) (a ∷ []), unrestricteds-length f))
 
 -- `part` on formulas is the two halves of the definition's split
 keep-same : (b : Bool) (x : Formula) {xs ys : List Formula} → xs ≡ ys → keep b x xs ≡ splits.keep b x ys
