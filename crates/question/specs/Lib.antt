@@ -1,0 +1,13 @@
+pub mod Answers
+pub mod AnswersLaws
+pub mod Stages
+pub mod StagesLaws
+pub mod Zone
+pub mod ZonesLaws
+pub mod Found
+pub mod FoundLaws
+pub mod Negating
+pub mod NegatingLaws
+pub mod Turning
+pub mod TurningLaws
+pub mod OneSidedLaws
