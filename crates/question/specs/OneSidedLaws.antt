@@ -9,12 +9,12 @@ use borrow.Author.Tests.{le-leb, lt-leb}
 use lib.Dec.{leb}
 use lib.ListN.{length, take, drop, length-append, length-map}
 use lib.Seq.{take-length, take-at, drop-at}
-use Rattle.logic.specs.Formula.{Formula, One, Bottom, Top, Zero, Atom, NegAtom, Tensor, Par, With, Plus, Lolli, OfCourse, WhyNot, negate}
-use Rattle.logic.specs.FormulaLaws.{negate-height}
+use Rattle.logic.specs.Formula.{Formula, negate}
 use Rattle.logic.specs.Sequent.{Question, one-sided, two-sided, to-one-sided}
 use Rattle.wire.specs.Write.{write-formulas, write-body, write-question}
-use Rattle.wire.specs.Read.{Read, got, refused, highest-formula, read-question}
-use Rattle.wire.specs.Fits.{Bytes, NamesFit, FormulaFits, FormulasFit, first-zone, QuestionFits}
+use Rattle.wire.specs.Read.{Read, got, refused, read-question}
+use Rattle.wire.specs.Fits.{Bytes, FormulasFit, first-zone, QuestionFits}
+use Rattle.wire.specs.FoundFits.{negate-fits}
 use Rattle.wire.specs.QuestionBytes.{read-write-question, write-read-question}
 use Rattle.formula.specs.Answers.{coded}
 use Rattle.formula.specs.declared.Refusal as refusal
@@ -81,25 +81,6 @@ module _ (s : List ℕ) (bytes : Bytes s) (out : List ℕ) {r : answer.Question}
       two-sided-ready n = two-sided-of q refl λ k. n (there .kind-is ∙ k)
 
 -- ---- what is written reads back
-
-negate-names-fit : (f : Formula) → NamesFit f → NamesFit (negate f)
-unfolding negate
-negate-names-fit One h = tt
-negate-names-fit Bottom h = tt
-negate-names-fit Top h = tt
-negate-names-fit Zero h = tt
-negate-names-fit (Atom a) h = h
-negate-names-fit (NegAtom a) h = h
-negate-names-fit (Tensor a b) h = (negate-names-fit a (h .0), negate-names-fit b (h .1))
-negate-names-fit (Par a b) h = (negate-names-fit a (h .0), negate-names-fit b (h .1))
-negate-names-fit (With a b) h = (negate-names-fit a (h .0), negate-names-fit b (h .1))
-negate-names-fit (Plus a b) h = (negate-names-fit a (h .0), negate-names-fit b (h .1))
-negate-names-fit (Lolli a b) h = (h .0, negate-names-fit b (h .1))
-negate-names-fit (OfCourse a) h = negate-names-fit a h
-negate-names-fit (WhyNot a) h = negate-names-fit a h
-
-negate-fits : (f : Formula) → FormulaFits highest-formula f → FormulaFits highest-formula (negate f)
-negate-fits f h = record { height-fits = rw (negate-height f) (h .height-fits); names-fit = negate-names-fit f (h .names-fit) }
 
 turned-formulas-fit : (Γ Δ : List Formula) → FormulasFit Γ → FormulasFit Δ → FormulasFit (map negate Γ ++ Δ)
 turned-formulas-fit [] Δ g d = d

@@ -5,7 +5,7 @@ use mathlib.Core.List.{List, [], _∷_, _++_}
 use Prim.Native.Nat.{ℕ, suc, _+_, _≤_, _<_, max}
 use lib.ListN.{length, getD}
 use Rattle.logic.specs.Formula.{Formula, One, Bottom, Top, Zero, Atom, NegAtom, Tensor, Par, With, Plus, Lolli, OfCourse, WhyNot, height}
-use Rattle.logic.specs.Sequent.{Sequent, Question, one-sided, two-sided}
+use Rattle.logic.specs.Sequent.{Sequent, Question, one-sided, two-sided, count}
 use Rattle.logic.specs.Tree.{Rule, Axiom, Cut, OneIntro, BottomIntro, TensorIntro, ParIntro, TopIntro, WithIntro, PlusIntroLeft, PlusIntroRight, OfCourseIntro, WhyNotIntro, Weakening, Contraction, Dereliction, FocusPositive, FocusNegative, Blur, Tree, Trees, node, ∅, _▹_, depth, depths, premise-count}
 use Rattle.logic.specs.Answer.{Refusal, wrong-number, wrong-length, wrong-tag, too-high, too-many}
 use Rattle.wire.specs.Write.{two-bytes, write-formula, write-formulas, write-zone, message, write-body, write-question, write-rule, write-node, write-nodes, write-tree}
@@ -104,6 +104,15 @@ abbrev mutual
   pub NodesFit* : Trees → Type 0
   NodesFit* ∅ = Unit {0}
   NodesFit* (t ▹ ts) = NodesFit t × NodesFit* ts
+
+-- each sequent of a tree has at most 31 formulas
+abbrev mutual
+  pub NodesFew : Tree → Type 0
+  NodesFew (node r q ps) = (count q ≤ most-formulas) × NodesFew* ps
+
+  pub NodesFew* : Trees → Type 0
+  NodesFew* ∅ = Unit {0}
+  NodesFew* (t ▹ ts) = NodesFew t × NodesFew* ts
 
 pub record TreeFits (t : Tree) : Type 0 where
   pub nodes-fit : NodesFit t

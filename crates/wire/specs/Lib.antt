@@ -10,3 +10,4 @@ pub mod ZoneBytes
 pub mod MessageBytes
 pub mod QuestionBytes
 pub mod TreeBytes
+pub mod FoundFits

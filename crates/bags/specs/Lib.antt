@@ -1,0 +1,9 @@
+pub mod Reading
+pub mod ReadingLaws
+pub mod Compared
+pub mod ComparedLaws
+pub mod Runs
+pub mod RunsLaws
+pub mod Walks
+pub mod WalksLaws
+pub mod CountingLaws

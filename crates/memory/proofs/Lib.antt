@@ -1,0 +1,3 @@
+pub mod WholeSteps
+pub mod ShapeSteps
+pub mod FailedSteps
