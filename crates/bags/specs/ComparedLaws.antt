@@ -36,7 +36,7 @@ module _ {s : List ℕ} {at : ℕ} (f : Formula) (here : Stands s at (write-form
   rest-here : Stands s (at + 1) (write-rest (rest-of f))
   rest-here = stands-tail (rw (write-parts f) at here)
 
-  pub name-here : {n : ℕ} → rest-of f ≡ named n → (getD s (at + 1) 0 * 256 + getD s (at + 1 + 1) 0 ≡ n) × (size f ≡ 3)
+  name-here : {n : ℕ} → rest-of f ≡ named n → (getD s (at + 1) 0 * 256 + getD s (at + 1 + 1) 0 ≡ n) × (size f ≡ 3)
   unfolding write-rest rest-size
   name-here {n} e =
       let two : Stands s (at + 1) (two-bytes n) = rw e at rest-here in

@@ -68,7 +68,7 @@ enough (x ∷ xs) ys n h f =
     let rest = enough xs (t .rest) (omega (arith, n, t .shorter)) (equal-less xs x xs ys t (h .1)) f in
     omega (arith, t .others f)
 
-pub counted-same : (xs ys : List Formula) → eqb (length xs) (length ys) && agree-on xs xs ys ≡ same-bag xs ys
+counted-same : (xs ys : List Formula) → eqb (length xs) (length ys) && agree-on xs xs ys ≡ same-bag xs ys
 counted-same xs ys =
     same-test _ _
     (λ e.
@@ -78,7 +78,7 @@ counted-same xs ys =
     let s = same-bag-iff xs ys .0 e in
     and-eq-true-iff (eqb (length xs) (length ys)) (agree-on xs xs ys) .1 (eq-eqb _ _ (same-length s), equal-agree xs xs ys (s .each)))
 
-pub agree-append : (as′ bs xs ys : List Formula) → agree-on (as′ ++ bs) xs ys ≡ agree-on as′ xs ys && agree-on bs xs ys
+agree-append : (as′ bs xs ys : List Formula) → agree-on (as′ ++ bs) xs ys ≡ agree-on as′ xs ys && agree-on bs xs ys
 unfolding agree-on
 agree-append [] bs xs ys = refl
 agree-append (f ∷ fs) bs xs ys = ap (λ b. eqb (times plain f xs) (times plain f ys) && b) (agree-append fs bs xs ys) ∙ sym (and-assoc (eqb (times plain f xs) (times plain f ys)) (agree-on fs xs ys) (agree-on bs xs ys))

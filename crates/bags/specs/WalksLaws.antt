@@ -21,7 +21,7 @@ use Rattle.bags.specs.declared.Place.{Place}
 use Rattle.bags.specs.declared.Run.{Run}
 use Rattle.bags.specs.declared.Bag.{Bag}
 
-pub along-within : (s : List ℕ) (end p : ℕ) (fs : List Formula) → Along s end p fs → p ≤ end
+along-within : (s : List ℕ) (end p : ℕ) (fs : List Formula) → Along s end p fs → p ≤ end
 along-within s end p [] h = omega arith
 along-within s end p (f ∷ fs) h = omega (arith, along-within s end (p + size f) fs (h .1))
 

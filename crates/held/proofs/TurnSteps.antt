@@ -1,15 +1,15 @@
 -- Steps of negating a held formula and of spelling out an implication. Assumes nothing.
 use mathlib.Core.Path.{_≡_, refl, sym, _∙_, ap}
 use mathlib.Core.Logic.{⊎-elim, _⊎_, inl, inr}
-use mathlib.Core.Bool.{Bool, true, false}
-use mathlib.Core.List.{List, [], _∷_, _++_}
-use Prim.Native.Nat.{ℕ, zero, suc, _+_, _*_, _-_, _≤_, _<_, max}
+use mathlib.Core.Bool.{false}
+use mathlib.Core.List.{List, [], _∷_}
+use Prim.Native.Nat.{ℕ, zero, suc, _+_, _-_, _≤_, _<_, max}
 use native.Mathlib.Omega.{arith}
-use native.Mathlib.Nat.{eq-or-lt-of-le, le-of-suc-le-suc, lt-of-lt-of-le, le-trans}
+use native.Mathlib.Nat.{eq-or-lt-of-le, le-of-suc-le-suc, lt-of-lt-of-le}
 use lib.ListN.{getD, length, set, length-set, length-append, replicate, length-replicate, getD-replicate, List·getD-eq-default}
-use lib.Seq.{getD-set-same, getD-set-other, ext-getD}
+use lib.Seq.{getD-set-same, getD-set-other}
 use denote.Enum.Declared.{tagOf}
-use Rattle.logic.specs.Formula.{Formula, One, Lolli, negate, spell, height, size, among}
+use Rattle.logic.specs.Formula.{Formula, One, negate, spell, height, size, among}
 use Rattle.logic.specs.FormulaLaws.{negate-height, negate-size, spell-height, spell-size}
 use Rattle.logic.specs.Held.{add, enter}
 use Rattle.held.specs.Signs.{node, make, dualOf}
@@ -37,10 +37,11 @@ use Rattle.held.specs.SignsLaws.{
 }
 use Rattle.held.specs.EnterLaws.{add-known, add-unknown, added-longer, enter-longer}
 use Rattle.held.specs.OrderLaws.{le-or-lt, eq-or-not}
-use Rattle.held.specs.Words.{at, count, most, words, held, view, told, Row, unit, name, two, one, Wf, Agree, Extends}
+use Rattle.held.specs.Words.{at, count, most, held, view, told, Row, unit, name, two, one, Wf, Extends}
 use Rattle.held.specs.Answers.{Next, Stored, NoRoom, AddedTo, TakenBack}
 use Rattle.held.specs.Turn.{Memo, Turn, KnownAt, LeafAt, HalfAt, TwoAt, SingleAt, StepOf, Ready, Finished, Entered, Over, Turned, Refused, EnteredOr, Implication}
-use Rattle.held.specs.WordsLaws.{held-node, held-length, weights, keeps, extends-refl, extends-trans, agree-trans, agree-held, agree-less, among-true, row-low, row-weight-fits, image-once}
+use Rattle.held.specs.WordsLaws.{held-node, held-length, weights, keeps, extends-refl, extends-trans, among-true, row-low, row-weight-fits}
+use Rattle.held.specs.CutLaws.{cut-back}
 use Rattle.held.proofs.RowSteps.{row-left, row-right}
 use Rattle.held.proofs.Added.{the-type as added-type}
 use Rattle.held.specs.declared.turn.Step.{Step}
@@ -274,11 +275,6 @@ leaf-close m memo x t a r m₂ memo₂ z w u = closing m x m r m₂ memo₂ (z .
 
 pub leaf-ready : (m memo : List ℕ) (x t a : ℕ) → Turn m memo x → LeafAt m x t a → Ready m memo x t a 0
 leaf-ready m memo x t a z w = record { turn = z; next = w .next; here = w .here }
-
--- taken back: what was entered since is gone, and every word is as it was
-pub cut-back : (m m₁ m₂ : List ℕ) → Wf m → Extends m m₁ → TakenBack m₁ (count m) m₂ → m₂ ≡ m
-cut-back m m₁ m₂ z p w =
-    image-once m₂ m (w .wf) z (rw (w .counted) (agree-held m m₂ (count m) (agree-trans (p .agree) (w .agree))))
 
 -- the cases of an answer
 module _ (m : List ℕ) (x : ℕ) (r : Step) (y : StepOf m x r) where

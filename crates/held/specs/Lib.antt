@@ -5,5 +5,6 @@ pub mod EnterLaws
 pub mod Words
 pub mod WordsLaws
 pub mod Answers
+pub mod CutLaws
 pub mod Turn
 pub mod WholeLaws

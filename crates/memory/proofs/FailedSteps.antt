@@ -23,10 +23,10 @@ use Rattle.failures.specs.FailedLaws.{known-contains, noted-keys}
 use Rattle.failures.specs.Records.{tally, Sized, WfFailures, Among, NotedTo}
 use Rattle.failures.specs.RecordsLaws.{wf-sized}
 use Rattle.memory.specs.Meaning.{formula-words, holds, held-count, told, failed, Wf, Stands-in, key-of}
-use Rattle.memory.specs.MeaningLaws.{extends-grew}
+use Rattle.memory.specs.MeaningLaws.{wf-length, extends-grew}
 use Rattle.memory.specs.PartsLaws.{back-lent, back-changed, back-put}
 use Rattle.memory.specs.Shapes.{Filed, was-known, is-new, Recorded, NoPlace}
-use Rattle.memory.proofs.WholeSteps.{lent, put, wf-length, parts-wf, parts-holds, parts-failed}
+use Rattle.memory.proofs.WholeSteps.{lent, put, parts-wf, parts-holds, parts-failed}
 
 pub sequent-named : {m : List ℕ} {z : Zones} → Wf m → Stands-in m z → Names (formula-words m) z
 unfolding held-count

@@ -1,9 +1,9 @@
 -- What the whole lent memory means: its formulas, the formula of a number, its failures as keys; what is held stays held. Assumes nothing: these are definitions.
 use mathlib.Core.Path.{_≡_}
-use mathlib.Core.Bool.{Bool, true, false}
 use mathlib.Core.List.{List, []}
 use Prim.Native.Nat.{ℕ, _≤_, _<_}
 use lib.ListN.{length, take, drop}
+use Rattle.logic.specs.Answer.{number, wrong-memory}
 use Rattle.logic.specs.Formula.{Formula}
 use Rattle.logic.specs.Key.{Key, sequent-key}
 use Rattle.zones.specs.declared.Zones.{Zones}
@@ -52,6 +52,13 @@ pub record Stands-in (m : List ℕ) (z : Zones) : Type 0 where
 abbrev pub key-of : List ℕ → Zones → Key
 key-of m z = sequent-key (meant (told m) z)
 
-abbrev pub ResetTo : List ℕ → Bool → List ℕ → Type 0
-ResetTo m true m' = Wf m' × ((holds m' ≡ []) × (failed m' ≡ []))
-ResetTo m false m' = (m' ≡ m) × (length m ≡ words → ⊥)
+-- nothing is held
+pub record Emptied (m : List ℕ) : Type 0 where
+  pub wf : Wf m
+  pub no-formula : holds m ≡ []
+  pub no-failure : failed m ≡ []
+
+-- `reset` answers r and leaves the words m': 0, and nothing is held; or 12, where the words are not as many as there must be, and they stay as they are
+pub record ResetTo (m : List ℕ) (r : ℕ) (m' : List ℕ) : Type 0 where
+  pub done : length m ≡ words → (r ≡ 0) × Emptied m'
+  pub refused : (length m ≡ words → ⊥) → (r ≡ number wrong-memory) × (m' ≡ m)

@@ -1,4 +1,4 @@
--- Laws of what the memory means: numbers and formulas, what stays over more formulas and over a record. Assumes nothing.
+-- Laws of what the memory means: its length, numbers and formulas, what stays over more formulas and over a record. Assumes nothing.
 use mathlib.Core.Path.{_≡_, refl, sym, _∙_}
 use mathlib.Core.Bool.{Bool, true, false, false≢true}
 use mathlib.Core.List.{List, [], _∷_}
@@ -9,7 +9,12 @@ use Rattle.logic.specs.Formula.{Formula, One, same, among}
 use Rattle.logic.specs.FormulaLaws.{same-iff}
 use Rattle.held.specs.Words as formulas
 use Rattle.held.specs.WordsLaws.{held-length, among-true, keeps}
-use Rattle.memory.specs.Meaning.{formula-words, holds, held-count, told, Grew}
+use Rattle.memory.specs.Meaning.{words, formula-words, holds, held-count, told, Wf, Grew}
+use Rattle.memory.specs.PartsLaws.{parts-length}
+
+-- as many words as there must be, both parts together
+pub wf-length : (m : List ℕ) → Wf m → length m ≡ words
+wf-length m z = parts-length 12289 m ∙ omega (arith, z .formulas .sized, z .failures .sized)
 
 -- as many formulas as numbers
 pub holds-length : (m : List ℕ) → length (holds m) ≡ held-count m

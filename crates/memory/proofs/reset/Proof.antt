@@ -1,13 +1,12 @@
 -- `memory::reset` meets its contract. Assumes nothing.
-use mathlib.Core.Path.{sym, _∙_}
 use native.Mathlib.Omega.{arith}
-use Rattle.memory.proofs.WholeSteps.{front-length, wf-length, reset-whole}
+use Rattle.memory.proofs.WholeSteps.{front-length, reset-whole, reset-long, reset-refused}
 use borrow.Author.Needs.{needs}
 use Rattle.memory.proofs.reset.Statement.{statement}
 use Rattle.memory.proofs.reset.Tie as tie
 
 returns : tie.Need-returns
-returns c = search needs
+returns c = reset-refused _ (c .if1 .taken)
 
 slice-relend-prefix-reset : tie.Need-slice-relend-prefix-reset
 slice-relend-prefix-reset c = search needs
@@ -34,7 +33,7 @@ reset-requires-2 : tie.Need-reset-requires-2
 reset-requires-2 c κs = search needs
 
 same-length : tie.Need-same-length
-same-length c = wf-length _ (reset-whole (c .before .before .before .before .before .before .before .before .before .before .args .mem .now) (c .before .before .before .before .before .before .reset .last .0) (c .before .before .reset2 .last .0) (c .before .before .before .before .before .before .before .before .if1 .left) (c .before .before .before .before .before .before .reset .result) (c .before .before .reset2 .result) (c .before .before .before .before .before .before .reset .ensures) (c .before .before .reset2 .ensures) .0) ∙ sym (c .before .before .before .before .before .before .before .before .if1 .left)
+same-length c = reset-long (c .before .before .before .before .before .before .before .before .before .before .args .mem .now) (c .before .before .before .before .before .before .reset .last .0) (c .before .before .reset2 .last .0) (c .before .before .before .before .before .before .before .before .if1 .left) (reset-whole (c .before .before .before .before .before .before .before .before .before .before .args .mem .now) (c .before .before .before .before .before .before .reset .last .0) (c .before .before .reset2 .last .0) (c .before .before .before .before .before .before .before .before .if1 .left) (c .before .before .before .before .before .before .reset .result) (c .before .before .reset2 .result) (c .before .before .before .before .before .before .reset .ensures) (c .before .before .reset2 .ensures))
 
 returns-2 : tie.Need-returns-2
 returns-2 c = reset-whole (c .before .before .before .before .before .before .before .before .before .before .args .mem .now) (c .before .before .before .before .before .before .reset .last .0) (c .before .before .reset2 .last .0) (c .before .before .before .before .before .before .before .before .if1 .left) (c .before .before .before .before .before .before .reset .result) (c .before .before .reset2 .result) (c .before .before .before .before .before .before .reset .ensures) (c .before .before .reset2 .ensures)

@@ -2,7 +2,8 @@
 use native.Mathlib.Omega.{arith}
 use borrow.Author.Tests.{not-true, not-false}
 use Rattle.held.proofs.RowSteps.{told, untold}
-use Rattle.memory.proofs.WholeSteps.{front-length, wf-length, wf-tells}
+use Rattle.memory.specs.MeaningLaws.{wf-length}
+use Rattle.memory.proofs.WholeSteps.{front-length, wf-tells}
 use borrow.Author.Needs.{needs}
 use Rattle.memory.proofs.well_formed.Statement.{statement}
 use Rattle.memory.proofs.well_formed.Tie as tie

@@ -1,6 +1,6 @@
 -- `memory::failed::record_failure` meets its contract. Assumes nothing.
 use native.Mathlib.Omega.{arith}
-use Rattle.memory.proofs.WholeSteps.{wf-length}
+use Rattle.memory.specs.MeaningLaws.{wf-length}
 use Rattle.memory.proofs.FailedSteps.{sequent-named, lent-sized, recorded, no-place}
 use borrow.Author.Needs.{needs}
 use Rattle.memory.proofs.failed.record_failure.Statement.{statement}

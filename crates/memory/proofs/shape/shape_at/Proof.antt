@@ -1,6 +1,6 @@
 -- `memory::shape::shape_at` meets its contract. Assumes nothing.
 use native.Mathlib.Omega.{arith}
-use Rattle.memory.proofs.WholeSteps.{wf-length}
+use Rattle.memory.specs.MeaningLaws.{wf-length}
 use Rattle.memory.proofs.ShapeSteps.{row-reads, read-row, shape-one, shape-bottom, shape-top, shape-zero, shape-atom, shape-neg-atom, shape-tensor, shape-par, shape-with, shape-plus, shape-lolli, shape-of-course, none-of, shape-why-not}
 use borrow.Author.Needs.{needs}
 use Rattle.memory.proofs.shape.shape_at.Statement.{statement}

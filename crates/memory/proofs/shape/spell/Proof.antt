@@ -1,7 +1,7 @@
 -- `memory::shape::spell` meets its contract. Assumes nothing.
 use native.Mathlib.Omega.{arith}
 use Rattle.held.proofs.TurnSteps.{is-full, entered-at, entered-full}
-use Rattle.memory.proofs.WholeSteps.{wf-length}
+use Rattle.memory.specs.MeaningLaws.{wf-length}
 use Rattle.memory.proofs.ShapeSteps.{implication-held, spelled, not-spelled, number-fits}
 use borrow.Author.Needs.{needs}
 use Rattle.memory.proofs.shape.spell.Statement.{statement}
