@@ -6,6 +6,7 @@ pub mod ask;
 pub mod cursor;
 pub mod filter;
 pub mod formula;
+pub mod lists;
 pub mod make;
 pub mod model;
 pub mod question;

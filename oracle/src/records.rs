@@ -1,11 +1,11 @@
-//! The three stored files. Each is a sequence of records, big-endian, with no header. docs/ORACLE.md gives the formats.
+//! The three stored lists. Each is a sequence of records, big-endian, with no header. docs/ORACLE.md gives the formats.
 
 use crate::cursor::{put_counted, put_long, Cursor, Read};
 use crate::verdict::{verdict, Verdict};
 use crate::{formula, tree};
 use lolli_core::{Formula, Proof};
 
-/// formulas.bin: a formula and what formula.rs makes of it.
+/// formulas: a formula and what formula.rs makes of it.
 #[derive(Clone, Debug, PartialEq, Eq)]
 pub struct FormulaRecord {
     pub formula: Vec<u8>,
@@ -49,7 +49,7 @@ impl FormulaRecord {
     }
 }
 
-/// trees.bin: a tree, its depth and the verdict on it.
+/// trees: a tree, its depth and the verdict on it.
 #[derive(Clone, Debug, PartialEq, Eq)]
 pub struct TreeRecord {
     pub message: Vec<u8>,
@@ -182,7 +182,7 @@ impl Asked {
     }
 }
 
-/// sessions.bin: questions that shared one prover.
+/// sessions: questions that shared one prover.
 #[derive(Clone, Debug, PartialEq, Eq)]
 pub struct Session {
     pub cache: bool,

@@ -1,10 +1,10 @@
-//! Confirms that the stored list is the Rust's: `check FOLDER` asks the unchanged Rust again for every record,
+//! Confirms that the stored list is the Rust's: `check ROOT` asks the unchanged Rust again for every record,
 //! and the model too, which also shows that each stored question stays within document 01's limits.
 
 use oracle::ask::Asker;
-use oracle::cursor::Read;
 use oracle::filter::{Caps, Filter};
 use oracle::formula;
+use oracle::lists;
 use oracle::question::Question;
 use oracle::records::{self, FormulaRecord, Session, TreeRecord};
 use std::path::Path;
@@ -30,20 +30,15 @@ impl Tally {
 }
 
 fn main() {
-    let Some(folder) = std::env::args().nth(1) else {
-        eprintln!("usage: check FOLDER");
+    let Some(root) = std::env::args().nth(1) else {
+        eprintln!("usage: check ROOT");
         exit(2);
     };
-    let folder = Path::new(&folder);
-    let mut differing = check_formulas(&stored(folder, "formulas.bin", records::formulas));
-    differing += check_trees(&stored(folder, "trees.bin", records::trees));
-    differing += check_sessions(&stored(folder, "sessions.bin", records::sessions));
+    let root = Path::new(&root);
+    let mut differing = check_formulas(&lists::read(root, lists::FORMULAS, records::formulas));
+    differing += check_trees(&lists::read(root, lists::TREES, records::trees));
+    differing += check_sessions(&lists::read(root, lists::SESSIONS, records::sessions));
     exit(i32::from(differing > 0));
-}
-
-fn stored<T>(folder: &Path, name: &str, read: impl Fn(&[u8]) -> Read<T>) -> T {
-    let bytes = std::fs::read(folder.join(name)).unwrap_or_else(|why| panic!("{name}: {why}"));
-    read(&bytes).unwrap_or_else(|_| panic!("{name} does not divide into records"))
 }
 
 fn check_formulas(stored: &[FormulaRecord]) -> usize {
@@ -51,7 +46,7 @@ fn check_formulas(stored: &[FormulaRecord]) -> usize {
     for record in stored {
         tally.compare(formula::read(&record.formula).map(|f| FormulaRecord::of(&f)).as_ref() == Ok(record));
     }
-    tally.print("formulas.bin")
+    tally.print("formulas")
 }
 
 fn check_trees(stored: &[TreeRecord]) -> usize {
@@ -59,7 +54,7 @@ fn check_trees(stored: &[TreeRecord]) -> usize {
     for record in stored {
         tally.compare(TreeRecord::again(&record.message).as_ref() == Ok(record));
     }
-    tally.print("trees.bin")
+    tally.print("trees")
 }
 
 fn check_sessions(stored: &[Session]) -> usize {
@@ -73,6 +68,6 @@ fn check_sessions(stored: &[Session]) -> usize {
             model.compare(filter.ask(asked.limit, &asked.question, Caps::LIMITS).as_ref() == Some(asked));
         }
     }
-    println!("sessions.bin: {} sessions", stored.len());
-    rust.print("sessions.bin, questions") + model.print("sessions.bin, questions by the model")
+    println!("{} sessions", stored.len());
+    rust.print("questions") + model.print("questions by the model")
 }

@@ -1,6 +1,7 @@
-//! Makes the stored list: `record FOLDER [SEED]` writes formulas.bin, trees.bin and sessions.bin, and prints what they hold.
-//! The list in answers/ is that of seed 1. Another seed gives another list, and so another comparison of the model with the Rust.
+//! Makes the stored lists: `record ROOT [SEED]` writes formulas, trees and sessions to their places below the root, and prints what they hold.
+//! The stored lists are those of seed 1. Another seed gives others, and so another comparison of the model with the Rust.
 
+use oracle::lists;
 use oracle::make::{formulas, sessions, trees};
 use oracle::records::{FormulaRecord, Session, TreeRecord};
 use oracle::report;
@@ -10,28 +11,22 @@ use std::path::Path;
 use std::process::exit;
 
 fn main() {
-    let Some(folder) = std::env::args().nth(1) else {
-        eprintln!("usage: record FOLDER [SEED]");
+    let Some(root) = std::env::args().nth(1) else {
+        eprintln!("usage: record ROOT [SEED]");
         exit(2);
     };
     let seed = std::env::args().nth(2).map_or(1, |text| text.parse().expect("a seed is a number"));
-    let folder = Path::new(&folder);
-    std::fs::create_dir_all(folder).expect("the folder can be made");
+    let root = Path::new(&root);
 
     let made = sessions::make(seed);
-    save(folder, "formulas.bin", &formula_bytes(seed));
-    save(folder, "trees.bin", &tree_bytes(seed, &found_trees(&made.groups)));
-    save(folder, "sessions.bin", &session_bytes(&made.groups));
+    lists::write(root, lists::FORMULAS, &formula_bytes(seed));
+    lists::write(root, lists::TREES, &tree_bytes(seed, &found_trees(&made.groups)));
+    lists::write(root, lists::SESSIONS, &session_bytes(&made.groups));
     println!(
         "model: {} questions compared with the Rust, {} differing, {} kept out",
         made.compared, made.differing, made.kept_out
     );
     exit(i32::from(made.differing > 0));
-}
-
-fn save(folder: &Path, name: &str, bytes: &[u8]) {
-    std::fs::write(folder.join(name), bytes).expect("the file can be written");
-    println!("{name}: {} bytes\n", bytes.len());
 }
 
 fn formula_bytes(seed: u64) -> Vec<u8> {

@@ -1,4 +1,4 @@
-//! The formulas of formulas.bin.
+//! The list of formulas.
 
 use super::fragment::{all, formula, mixed, FRAGMENTS, SPREAD};
 use crate::answer::MAX_FORMULA_HEIGHT;

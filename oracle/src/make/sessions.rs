@@ -1,4 +1,4 @@
-//! The sessions of sessions.bin.
+//! The list of sessions.
 
 use super::families::{self, RUNGS};
 use super::fragment::{self, all, Fragment, FRAGMENTS};

@@ -1,4 +1,4 @@
-//! The trees of trees.bin: found ones, damaged ones, and ones that no search makes.
+//! The list of trees: found ones, damaged ones, and ones that no search makes.
 
 use super::fragment::{formula, mixed, SPREAD};
 use crate::answer::{MAX_SEQUENT, MAX_TREE_HEIGHT};

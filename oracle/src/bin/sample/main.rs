@@ -1,10 +1,10 @@
 //! Prints a sample of the stored list as a module of crates/judged/specs, where the definitions are computed and compared:
-//! `sample FOLDER sessions|formulas|trees COUNT [VISITS]`, so many questions or records, of at most so many visits each.
+//! `sample ROOT sessions|formulas|trees COUNT [VISITS]`, so many questions or records, of at most so many visits each.
 
 mod module;
 mod rows;
 
-use oracle::cursor::Read;
+use oracle::lists;
 use oracle::records::{self, Session};
 use std::path::Path;
 use std::process::exit;
@@ -12,23 +12,24 @@ use std::process::exit;
 fn main() {
     let given: Vec<String> = std::env::args().skip(1).collect();
     let number = |place: usize| given.get(place).and_then(|text| text.parse::<usize>().ok());
-    let (Some(folder), Some(what), Some(count)) = (given.first(), given.get(1), number(2)) else {
-        eprintln!("usage: sample FOLDER sessions|formulas|trees COUNT [VISITS]");
+    let (Some(root), Some(what), Some(count)) = (given.first(), given.get(1), number(2)) else {
+        eprintln!("usage: sample ROOT sessions|formulas|trees COUNT [VISITS]");
         exit(2);
     };
     let visits = number(3).unwrap_or(60) as u32;
-    let folder = Path::new(folder);
+    let root = Path::new(root);
     let text = match what.as_str() {
         "sessions" => {
-            let rows = session_rows(stored(folder, "sessions.bin", records::sessions), count, visits);
+            let rows = session_rows(lists::read(root, lists::SESSIONS, records::sessions), count, visits);
             module::print(&module::SESSIONS, &rows)
         }
         "formulas" => {
-            let rows = short(stored(folder, "formulas.bin", records::formulas), |r| r.formula.len(), count, rows::formula);
+            let rows =
+                short(lists::read(root, lists::FORMULAS, records::formulas), |r| r.formula.len(), count, rows::formula);
             module::print(&module::FORMULAS, &rows)
         }
         "trees" => {
-            let rows = short(stored(folder, "trees.bin", records::trees), |r| r.message.len(), count, rows::tree);
+            let rows = short(lists::read(root, lists::TREES, records::trees), |r| r.message.len(), count, rows::tree);
             module::print(&module::TREES, &rows)
         }
         _ => {
@@ -37,11 +38,6 @@ fn main() {
         }
     };
     print!("{text}");
-}
-
-fn stored<T>(folder: &Path, name: &str, read: impl Fn(&[u8]) -> Read<T>) -> T {
-    let bytes = std::fs::read(folder.join(name)).unwrap_or_else(|why| panic!("{name}: {why}"));
-    read(&bytes).unwrap_or_else(|_| panic!("{name} does not divide into records"))
 }
 
 /// Sessions spread over the whole file until they have so many questions, two thirds of them with more than a few visits.

@@ -1,0 +1,231 @@
+// Trees whose answers are settled, as rows of bytes and answer: at the limits of document 01, and in the order of its refusals.
+ghost use mathlib.Core.Path.{_≡_};
+ghost use lib.ListN.{length};
+use super::verdict::Verdict;
+use super::verdict::bare;
+use super::verdict::failed;
+use super::verdict::number;
+use super::verdict::same;
+use super::verdict::told;
+use stored::Tally;
+use tree::Measured;
+
+// Document 01's number of the answer of `depth`.
+fn measured(m: Measured) -> usize {
+    match m {
+        Measured::Depth(_) => 0,
+        Measured::Refused(why) => number(why),
+    }
+}
+
+// What `depth` answers where the verdict is this: only what cannot be read is refused.
+fn unread(answer: usize) -> usize {
+    if answer < 13 { answer } else { 0 }
+}
+
+// The verdict on the tree is this, and `depth` refuses it where reading does.
+fn row(s: &[u8], expected: Verdict) -> bool {
+    let answer = expected.answer;
+    let measures = measured(tree::depth(s)) == unread(answer);
+    let verifies = same(told(verify::verify(s)), expected);
+    measures && verifies
+}
+
+// 14, at the root.
+fn wrong_count(rule: usize, expected: usize, got: usize) -> Verdict {
+    Verdict {
+        answer: 14,
+        rule,
+        node: 0,
+        wrappers: 0,
+        expected,
+        got,
+    }
+}
+
+// Messages whose frame is wrong: fewer than three bytes 3, version 2, length 3, no node 3, leftover bytes 3 after all else.
+pub fn frames() -> Tally {
+    Tally::new()
+        .with(row(b"", bare(3)))
+        .with(row(b"\x02\x00", bare(3)))
+        .with(row(b"\x02\x00\x00", bare(2)))
+        .with(row(b"\x02\x00\x01\x00", bare(2)))
+        .with(row(b"\x01\x00\x00", bare(3)))
+        .with(row(b"\x01\x00\x01", bare(3)))
+        .with(row(b"\x01\x00\x04\x02\x00\x01\x0D\x00", bare(3)))
+        .with(row(b"\x01\x00\x05\x02\x00\x01\x0D\x00", bare(4)))
+        .with(row(b"\x01\x00\x07\x02\x00\x01\x00\x00\x00\x00", bare(0)))
+        .with(row(b"\x01\x00\x08\x02\x00\x01\x00\x00\x00\x00\x00", bare(3)))
+}
+
+// Nodes that cannot be read: rule 2, the argument, each zone's end 3 and its formulas, premise count 3. All reading ends before any checking.
+pub fn nodes() -> Tally {
+    Tally::new()
+        .with(row(b"\x01\x00\x01\x12", bare(2)))
+        .with(row(b"\x01\x00\x01\x02", bare(3)))
+        .with(row(b"\x01\x00\x02\x01\x06", bare(3)))
+        .with(row(b"\x01\x00\x02\x01\x0D", bare(4)))
+        .with(row(b"\x01\x00\x02\x0F\x00", bare(3)))
+        .with(row(b"\x01\x00\x04\x02\x00\x01\x0D", bare(4)))
+        .with(row(b"\x01\x00\x04\x02\x00\x02\x0D", bare(3)))
+        .with(row(b"\x01\x00\x09\x02\x00\x01\x06\x00\x02\x00\x00\x00", bare(3)))
+        .with(row(b"\x01\x00\x08\x02\x00\x02\x04\x00\x00\x00\x00", bare(3)))
+        .with(row(b"\x01\x00\x05\x02\x00\x00\x00\x00", bare(3)))
+        .with(row(
+            b"\x01\x00\x0D\x02\x00\x03\x04\x00\x01\x00\x00\x01\x02\x00\x01\x0D",
+            bare(4),
+        ))
+}
+
+// Trees that can be read. OneIntro over a1 with one premise; TensorIntro with one premise and no tensor; Cut with none; ParIntro over a lone implication; Blur and FocusPositive over empty zones, and over a failing node.
+pub fn verdicts() -> Tally {
+    Tally::new()
+        .with(row(
+            b"\x01\x00\x10\x02\x00\x03\x04\x00\x01\x00\x00\x01\x02\x00\x01\x00\x00\x00\x00",
+            failed(13, 2, 0, 0),
+        ))
+        .with(row(
+            b"\x01\x00\x10\x04\x00\x03\x04\x00\x01\x00\x00\x01\x02\x00\x01\x00\x00\x00\x00",
+            wrong_count(4, 2, 1),
+        ))
+        .with(row(
+            b"\x01\x00\x07\x01\x00\x00\x00\x00\x00\x00",
+            wrong_count(1, 2, 0),
+        ))
+        .with(row(
+            b"\x01\x00\x14\x05\x00\x07\x0A\x04\x00\x01\x04\x00\x01\x00\x00\x01\x02\x00\x01\x00\x00\x00\x00",
+            failed(13, 5, 0, 0),
+        ))
+        .with(row(b"\x01\x00\x06\x11\x00\x00\x00\x00\x00", bare(0)))
+        .with(row(b"\x01\x00\x08\x0F\x00\x01\x00\x00\x00\x00\x00", bare(0)))
+        .with(row(
+            b"\x01\x00\x0C\x11\x00\x00\x00\x00\x01\x02\x00\x00\x00\x00\x00",
+            failed(13, 2, 1, 1),
+        ))
+}
+
+// Blur over so many Ones in each zone; the message ends with its premise count or before it.
+fn ones(linear: usize, unrestricted: usize, count: usize, answer: usize) -> bool {
+    let mut s = [0u8; 80];
+    if linear > 32 {
+        return false;
+    }
+    if unrestricted > 32 {
+        return false;
+    }
+    if count > 1 {
+        return false;
+    }
+    let body = 5 + linear + unrestricted + count;
+    s[0] = 1;
+    s[2] = body as u8;
+    s[3] = 17;
+    s[5] = linear as u8;
+    s[6 + linear + 1] = unrestricted as u8;
+    let n = stored::at_most(3 + body, &s);
+    row(&s[..n], bare(answer))
+}
+
+// A sequent of 31 formulas and of 32, which is told before the premise count.
+pub fn widths() -> Tally {
+    Tally::new()
+        .with(ones(31, 0, 1, 0))
+        .with(ones(32, 0, 1, 6))
+        .with(ones(16, 15, 1, 0))
+        .with(ones(16, 16, 1, 6))
+        .with(ones(0, 32, 1, 6))
+        .with(ones(31, 0, 0, 3))
+        .with(ones(32, 0, 0, 6))
+}
+
+// 66 Blur nodes, each the premise of the one before, six bytes a node.
+fn blurs() -> [u8; 402]
+    ensures { λ r. ⌜ 402 ≡ length r ⌝ }
+{
+    let mut s = [0u8; 402];
+    let mut p = 3;
+    while p < 394 {
+        s[p] = 17;
+        s[p + 5] = 1;
+        p += 6;
+    }
+    s
+}
+
+// So many of them, the last with this premise count; then so many bytes more, a rule 18.
+fn chain(nodes: usize, count: u8, more: usize, answer: usize) -> bool {
+    let mut s = blurs();
+    if nodes > 66 {
+        return false;
+    }
+    if more > 1 {
+        return false;
+    }
+    let body = nodes * 6 + more;
+    s[0] = 1;
+    s[1] = (body / 256) as u8;
+    s[2] = (body % 256) as u8;
+    s[2 + nodes * 6] = count;
+    s[3 + nodes * 6] = 18;
+    let n = stored::at_most(3 + body, &s);
+    row(&s[..n], bare(answer))
+}
+
+// A tree of height 65, and of 66, where no byte is told before the height, and the height before the rule.
+pub fn chains() -> Tally {
+    Tally::new()
+        .with(chain(65, 0, 0, 0))
+        .with(chain(66, 0, 0, 5))
+        .with(chain(65, 1, 0, 3))
+        .with(chain(65, 1, 1, 5))
+        .with(chain(65, 0, 1, 3))
+}
+
+// Blur over so many `!` and a 1.
+fn high_zone(levels: usize, answer: usize) -> bool {
+    let mut s = [11u8; 80];
+    if levels > 64 {
+        return false;
+    }
+    s[0] = 1;
+    s[1] = 0;
+    s[2] = (7 + levels) as u8;
+    s[3] = 17;
+    s[4] = 0;
+    s[5] = (1 + levels) as u8;
+    s[6 + levels] = 0;
+    s[7 + levels] = 0;
+    s[8 + levels] = 0;
+    s[9 + levels] = 0;
+    let n = stored::at_most(10 + levels, &s);
+    row(&s[..n], bare(answer))
+}
+
+// Cut at so many `!` and a 1, over empty zones, with no premise.
+fn high_cut(levels: usize, expected: Verdict) -> bool {
+    let mut s = [11u8; 80];
+    if levels > 64 {
+        return false;
+    }
+    s[0] = 1;
+    s[1] = 0;
+    s[2] = (7 + levels) as u8;
+    s[3] = 1;
+    s[4 + levels] = 0;
+    s[5 + levels] = 0;
+    s[6 + levels] = 0;
+    s[7 + levels] = 0;
+    s[8 + levels] = 0;
+    s[9 + levels] = 0;
+    let n = stored::at_most(10 + levels, &s);
+    row(&s[..n], expected)
+}
+
+// Formulas of height 64 and 65, each counted from 1.
+pub fn heights() -> Tally {
+    Tally::new()
+        .with(high_zone(63, 0))
+        .with(high_zone(64, 5))
+        .with(high_cut(63, wrong_count(1, 2, 0)))
+        .with(high_cut(64, bare(5)))
+}

@@ -1,0 +1,9 @@
+pub mod Steps
+pub mod Turns
+pub mod Leaves
+pub mod Ready
+pub mod Visits
+pub mod Rules
+pub mod Choices
+pub mod Focused
+pub mod Entry
