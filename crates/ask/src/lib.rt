@@ -1,5 +1,7 @@
 // A question in bytes, entered into the lent words of formulas whole or not at all: the formulas read, in byte order, and then the negations of its antecedents. What is asked is then a sequent of
 // numbers of held formulas.
+pub mod whole; // whole.rt: a question read from bytes into the whole lent memory
+
 ghost use mathlib.Core.Path.{_≡_};
 ghost use mathlib.Core.Bool.{true};
 ghost use Rattle.ask.specs.Asking.{Askable, OneSided, TwoSided, Entering, Settles, SettledAs, AskedTo};
