@@ -2,11 +2,10 @@
 use mathlib.Core.Path.{_≡_}
 use mathlib.Core.Bool.{true, false}
 use mathlib.Core.List.{List, []}
-use Prim.Native.Nat.{ℕ, _≤_, _<_}
+use Prim.Native.Nat.{ℕ}
 use lib.ListN.{length}
 use Rattle.logic.specs.Formula.{Formula}
-use Rattle.logic.specs.Answer as answer
-use Rattle.logic.specs.Sequent.{Question, to-one-sided, count}
+use Rattle.logic.specs.Sequent.{Question, to-one-sided}
 use Rattle.logic.specs.Held.{enter-question}
 use Rattle.logic.specs.Limits.{at-most, exceeds}
 use Rattle.wire.specs.Read as wire
@@ -26,11 +25,6 @@ use Rattle.ask.specs.declared.whole.Reading.the-variants.{Sequent, Refus
 unfoldable pub answer-of : List Formula → wire.Read Question → Reading
 answer-of fs (got q rest) = elim (exceeds (at-most most) (length (enter-question q fs))) [ true ↦ Refused HeldFull | false ↦ Sequent ]
 answer-of fs (refused k) = Refused (coded k)
-
--- why a question is refused where the formulas fs are held
-pub data RefusedBy (fs : List Formula) (s : List ℕ) (why : Refusal) : Type 0 where
-  in-reading : {k : answer.Refusal} → read-question s ≡ refused k → why ≡ coded k → RefusedBy fs s why
-  for-room : {q : Question} → read-question s ≡ got q [] → count (to-one-sided q) ≤ 31 → most < length (enter-question q fs) → why ≡ HeldFull → RefusedBy fs s why
 
 -- formulas entered into the front of the memory, whose words are w then: it is well-formed still, what was held stays held, and the failures mean what they meant
 pub record Extended (m w m' : List ℕ) : Type 0 where

@@ -1,25 +1,19 @@
--- Laws of reading a question into the whole memory: what is entered into the words of formulas leaves the failures their meaning, and the answer is the one of the search's definition.
+-- Laws of reading a question into the whole memory: what is entered into the words of formulas leaves the failures their meaning, and the ways of `read_into` answer as it promises.
 -- Assumes nothing.
-use mathlib.Core.Path.{_≡_, refl, sym, ap, _∙_}
-use mathlib.Core.Bool.{Bool, true, false}
-use mathlib.Core.List.{List, [], _++_, map}
-use Prim.Native.Nat.{ℕ, _+_, _≤_, _<_}
+use mathlib.Core.Path.{_≡_, refl, ap, _∙_}
+use mathlib.Core.Bool.{true, false}
+use mathlib.Core.List.{List, [], _++_}
+use Prim.Native.Nat.{ℕ, _≤_, _<_}
 use native.Mathlib.Omega.{arith}
-use lib.ListN.{length, take-append-drop, length-append, length-map}
-use lib.Dec.{ltb}
-use borrow.Author.Tests.{ltb-true, lt-ltb, le-ltb}
-use Rattle.logic.specs.Formula.{Formula, negate}
-use Rattle.logic.specs.Answer.{held-full}
-use Rattle.logic.specs.Sequent.{Question, one-sided, two-sided, to-one-sided, count}
+use lib.ListN.{length, take-append-drop}
+use borrow.Author.Tests.{lt-ltb, le-ltb}
+use Rattle.logic.specs.Formula.{Formula}
+use Rattle.logic.specs.Sequent.{Question}
 use Rattle.logic.specs.Held.{enter-question}
-use Rattle.logic.specs.Limits.{at-most, exceeds}
-use Rattle.logic.specs.Outcome as outcome
-use Rattle.logic.specs.Outcome.{Memory, start, if_then_else_}
-use Rattle.logic.specs.Search.{Settings, ask}
+use Rattle.logic.specs.Limits.{exceeds}
 use Rattle.wire.specs.Read as wire
 use Rattle.wire.specs.Read.{got, refused, read-question}
-use Rattle.wire.specs.Fits.{Bytes, first-zone, second-zone}
-use Rattle.wire.specs.QuestionBytes.{write-read-question}
+use Rattle.wire.specs.Fits.{Bytes}
 use Rattle.formula.specs.Answers.{coded}
 use Rattle.formula.specs.declared.Refusal.{Refusal}
 use Rattle.formula.specs.declared.Refusal.the-variants.{HeldFull}
@@ -32,7 +26,6 @@ use Rattle.held.specs.Words.{most}
 use Rattle.held.specs.WordsLaws.{held-length}
 use Rattle.failures.specs.RecordsLaws.{failures-grow}
 use Rattle.failures.specs.FailedLaws.{failed-grows}
-use Rattle.zones.specs.declared.Zones.{Zones}
 use Rattle.zones.specs.Zones.{meant}
 use Rattle.memory.specs.Meaning.{Wf, formula-words, failure-words, holds, held-count, told, failed}
 use Rattle.memory.specs.MeaningLaws.{extends-grew}
@@ -40,9 +33,8 @@ use Rattle.memory.specs.PartsLaws.{front-changed}
 use Rattle.ask.specs.declared.Asked.{Asked}
 use Rattle.ask.specs.Asking.{Askable, Held, NoRoom, AskedTo}
 use Rattle.ask.specs.declared.whole.Entered.{Entered}
-use Rattle.ask.specs.declared.whole.Reading.{Reading}
 use Rattle.ask.specs.declared.whole.Reading.the-variants.{Sequent, Refused}
-use Rattle.ask.specs.Reading.{answer-of, RefusedAs, RefusedBy, in-reading, for-room, Extended, Taken, ReadInto}
+use Rattle.ask.specs.Reading.{answer-of, RefusedAs, Extended, ReadInto}
 
 -- ---- the words of formulas changed, and those of the failures not
 
@@ -109,41 +101,3 @@ module _ {m s : List ℕ} {p : Places} (z : Wf m) (x : Askable (formula-words m)
           means = ap (λ f. meant (formulas.told f) (a .zones)) (e .front) ∙ h .means;
         };
       }
-
--- ---- what the search's definition answers there
-
--- a question that is read has no more formulas than a sequent may
-one-sided-few : (q : Question) → length (first-zone q) + length (second-zone q) ≤ 31 → count (to-one-sided q) ≤ 31
-unfolding to-one-sided
-one-sided-few (one-sided Γ Θ) l = l
-one-sided-few (two-sided Γ Δ) l = omega (arith, length-append (map negate Γ) Δ, length-map Γ negate)
-
-module _ {s : List ℕ} (bytes : Bytes s) where
-  pub read-few : {q : Question} → read-question s ≡ got q [] → count (to-one-sided q) ≤ 31
-  read-few {q} e = one-sided-few q (write-read-question s q [] bytes e .fits .zones-fit .few-formulas)
-
-  answer-refused-by : {fs : List Formula} {why : Refusal} (x : wire.Read Question) → read-question s ≡ x → Refused why ≡ answer-of fs x → RefusedBy fs s why
-  unfolding answer-of exceeds
-  answer-refused-by {fs} {why} (refused k) e h = let same : why ≡ coded k = cc in in-reading e same
-  answer-refused-by {fs} {why} (got q rest) e h =
-      let none : rest ≡ [] = write-read-question s q rest bytes e .none-left in
-      let e' : read-question s ≡ got q [] = e ∙ rw none refl in
-      go e' (ltb most (length (enter-question q fs))) refl h
-    where
-      go : read-question s ≡ got q [] → (b : Bool) → ltb most (length (enter-question q fs)) ≡ b → _≡_ {A = Reading} (Refused why) (elim b [ true ↦ Refused HeldFull | false ↦ Sequent ]) → RefusedBy fs s why
-      go e' true l h = let same : why ≡ HeldFull = cc in for-room e' (read-few e') (ltb-true most (length (enter-question q fs)) l) same
-      go e' false l h = let z : _≡_ {A = ℕ} 1 0 = cc in absurd (omega arith)
-
-  pub refused-by : {m m' : List ℕ} (r : Entered) {why : Refusal} → ReadInto m s r m' → r .reading ≡ Refused why → RefusedBy (holds m) s why
-  refused-by r x e = answer-refused-by (read-question s) refl (sym e ∙ x .answer)
-
-  -- refusal 7 is the definition's
-  pub ask-over : (settings : Settings) (limit : ℕ) (q : Question) (memory : Memory) → settings .limits .formulas ≡ at-most 31 → settings .limits .held ≡ at-most most → read-question s ≡ got q [] → most < length (enter-question q (memory .held)) → ask settings limit q memory ≡ (outcome.refused held-full, start memory)
-  unfolding ask if_then_else_ exceeds
-  ask-over settings limit q memory few held e over =
-      rw (few, held, le-ltb 31 (count (to-one-sided q)) (read-few e), lt-ltb most (length (enter-question q (memory .held))) over)
-
--- a sequent has room
-pub taken-room : {m s : List ℕ} {z : Zones} {m' : List ℕ} (t : Taken m s z m') → length (enter-question (t .question) (holds m)) ≤ most
-unfolding holds
-taken-room {m' = m'} t = omega (arith, ap length (t .all), held-length (formula-words m') (formulas.count (formula-words m')), t .wf .formulas .few)

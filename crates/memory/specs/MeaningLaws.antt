@@ -5,6 +5,7 @@ use mathlib.Core.List.{List, [], _∷_}
 use Prim.Native.Nat.{ℕ, suc, _<_}
 use native.Mathlib.Omega.{arith}
 use lib.ListN.{length, getD}
+use lib.Seq.{getD-take}
 use Rattle.logic.specs.Formula.{Formula, One, same, among}
 use Rattle.logic.specs.FormulaLaws.{same-iff}
 use Rattle.held.specs.Words as formulas
@@ -15,6 +16,11 @@ use Rattle.memory.specs.PartsLaws.{parts-length}
 -- as many words as there must be, both parts together
 pub wf-length : (m : List ℕ) → Wf m → length m ≡ words
 wf-length m z = parts-length 12289 m ∙ omega (arith, z .formulas .sized, z .failures .sized)
+
+-- word 0 is how many formulas are held
+pub count-word : (m : List ℕ) → held-count m ≡ getD m 0 0
+unfolding held-count
+count-word m = getD-take 12289 m 0 0 (omega arith)
 
 -- as many formulas as numbers
 pub holds-length : (m : List ℕ) → length (holds m) ≡ held-count m

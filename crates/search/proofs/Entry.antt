@@ -36,11 +36,11 @@ stands-start : {m : List ℕ} {memory : Memory} → Remembers m memory → Stand
 stands-start k = record { explored = refl; hits = refl; reached = refl; held = k .held; failures = k .failures }
 
 module _ {p : Prover} {z : Zones} {m w : List ℕ} (asked : Asked p z m w) {c : Counters} (e : c ≡ zeroes) where
-  pub ready-start : Ready 0 z (0 + (p .limit + 1)) 0 p c m w
-  ready-start = rw e record {
+  pub ready-start : (far : ℕ) → far ≤ 65 → Ready 0 z far 0 p c m w
+  ready-start far l = rw e record {
     zones = asked .zones;
     wf = asked .wf;
-    shallow = omega (arith, asked .shallow);
+    shallow = l;
     within = omega arith;
     small = asked .small;
     room = asked .room;

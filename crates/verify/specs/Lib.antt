@@ -3,3 +3,4 @@ pub mod Shapes
 pub mod Walks
 pub mod ShapesLaws
 pub mod WalksLaws
+pub mod Promises

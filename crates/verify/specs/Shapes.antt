@@ -66,11 +66,6 @@ shape-tests =
 unfoldable pub test-of : ℕ → Test
 test-of n = getD shape-tests n no-test
 
--- a number is none of these; the pairs stand as the arms of a `match` on a number give them
-abbrev pub NoneOf : Type 0 → List ℕ → ℕ → Type 0
-NoneOf A [] n = A
-NoneOf A (k ∷ ks) n = NoneOf (A × (n ≡ k → ⊥)) ks n
-
 -- what is left of a zone, for a test that those before did not meet
 pub record Left (s : List ℕ) (z : Span) (test : Formula → Bool) (fs : List Formula) : Type 0 where
   pub rest : List Formula

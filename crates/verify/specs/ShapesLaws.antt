@@ -1,6 +1,6 @@
 -- Laws of `Shapes`: shape mode's test by the rule's number, and what the tests on bytes find. Assumes nothing.
 use mathlib.Core.Path.{_≡_, refl, sym, ap, ap₂, _∙_, subst}
-use mathlib.Core.Bool.{Bool, true, false, _&&_, So, false≢true}
+use mathlib.Core.Bool.{Bool, true, false, false≢true}
 use mathlib.Core.List.{List, [], _∷_}
 use mathlib.Core.Option.{Option, none, some}
 use mathlib.Core.Logic.{_⊎_, inl, inr, ⊎-elim}
@@ -14,40 +14,20 @@ use Rattle.logic.specs.FormulaLaws.{same-iff, same-symmetric, different-same, s
 use Rattle.wire.specs.Write.{write-formula, write-formulas}
 use Rattle.logic.specs.Parts.{left-part, right-part, is-literal, is-binary, is-unary}
 use Rattle.logic.specs.Sequent.{Sequent}
-use Rattle.logic.specs.Tree.{
-  Rule,
-  Axiom,
-  Cut,
-  OneIntro,
-  BottomIntro,
-  TensorIntro,
-  ParIntro,
-  TopIntro,
-  WithIntro,
-  PlusIntroLeft,
-  PlusIntroRight,
-  OfCourseIntro,
-  WhyNotIntro,
-  Weakening,
-  Contraction,
-  Dereliction,
-  FocusPositive,
-  FocusNegative,
-  Blur,
-  Trees,
-  premise-count,
-}
+use Rattle.logic.specs.Tree.{Rule, Axiom, Cut, OneIntro, BottomIntro, TensorIntro, ParIntro, TopIntro, WithIntro, PlusIntroLeft, PlusIntroRight, OfCourseIntro, WhyNotIntro, Weakening, Contraction, Dereliction, FocusPositive, FocusNegative, Blur, premise-count}
 use Rattle.logic.specs.Verify as logic
-use Rattle.logic.specs.Verify.{any, axiom-shaped, one-shaped, need, need-shape, need-premises, shape-fault}
+use Rattle.logic.specs.Verify.{any, axiom-shaped, one-shaped, need, need-premises, shape-fault}
 use Rattle.tree.specs.Tags.{tag, name, signed}
 use Rattle.tree.specs.TagsLaws.{by-tag, same-signed}
-use Rattle.tree.specs.Places.{rule-number, Within, Passed, FormulaAt, Holds, NodeIs}
+use Rattle.tree.specs.Places.{rule-number, Within, Passed, FormulaAt, Holds}
 use Rattle.tree.specs.StandsLaws.{stands-head, stands-tail}
 use Rattle.tree.specs.FormulaPlaces.{tag-at, atom-name, neg-atom-name, First, holds-first, holds-none}
 use Rattle.tree.specs.declared.Span.{Span}
 use Rattle.tree.specs.declared.Node.{Node}
+use Rattle.strict.specs.Rules.{NoneOf}
+use Rattle.strict.specs.RulesLaws.{any-head, any-tail}
 use Rattle.verify.specs.Verdicts.{fault-of}
-use Rattle.verify.specs.Shapes.{tagged, in-order, HasTag, IsAxiom, IsOne, no-test, shape-tests, test-of, ShapeFault, NoneOf, Left}
+use Rattle.verify.specs.Shapes.{tagged, in-order, HasTag, IsAxiom, IsOne, no-test, shape-tests, test-of, ShapeFault, Left}
 use Rattle.verify.specs.declared.Fault.{Fault}
 use Rattle.verify.specs.declared.Fault.the-variants as fault
 
@@ -57,14 +37,6 @@ any-same : {A : Type 0} {test test′ : A → Bool} → ((x : A) → test x ≡ 
 unfolding any
 any-same h [] = refl
 any-same h (x ∷ xs) = ap₂ (λ (b c : Bool). elim b as (λ _. Bool) [ true ↦ true | false ↦ c ]) (h x) (any-same h xs)
-
-any-head : {A : Type 0} (test : A → Bool) (x : A) (xs : List A) → test x ≡ true → any test (x ∷ xs) ≡ true
-unfolding any
-any-head test x xs e = ap (λ (b : Bool). elim b as (λ _. Bool) [ true ↦ true | false ↦ any test xs ]) e
-
-any-tail : {A : Type 0} (test : A → Bool) (x : A) (xs : List A) → test x ≡ false → any test (x ∷ xs) ≡ any test xs
-unfolding any
-any-tail test x xs e = ap (λ (b : Bool). elim b as (λ _. Bool) [ true ↦ true | false ↦ any test xs ]) e
 
 among-any : (x : Formula) (ys : List Formula) → among x ys ≡ any (same x) ys
 unfolding among any

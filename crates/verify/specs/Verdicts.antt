@@ -31,6 +31,13 @@ verdict-of (logic.rejected r n w logic.invalid-rule) = verified.Invalid (rule-nu
 verdict-of (logic.rejected r n w (logic.wrong-premise-count expected given)) = verified.WrongCount (rule-number r) n w expected given
 verdict-of (logic.rejected r n w logic.context-mismatch) = verified.Mismatch (rule-number r) n w
 
+-- the verdict that tells a fault at a node
+unfoldable pub told : Fault → (rule number wrappers : ℕ) → Verified
+told fault.None r n w = verified.Accepted
+told fault.Invalid r n w = verified.Invalid r n w
+told (fault.Count expected given) r n w = verified.WrongCount r n w expected given
+told fault.Mismatch r n w = verified.Mismatch r n w
+
 -- a part of a tree passed, up to the next place and number, or the verdict
 unfoldable pub walk-of : logic.Verdict → (next number : ℕ) → Walked
 walk-of logic.accepted next number = walked.Passed next number

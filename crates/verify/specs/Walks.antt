@@ -1,5 +1,6 @@
 -- What walking a part of a tree answers: its verdict, the next place and the next node's number. `test` is the mode's test at a node. Assumes nothing.
 use mathlib.Core.Path.{_≡_}
+use mathlib.Core.Bool.{Bool, true, false}
 use mathlib.Core.List.{List}
 use mathlib.Core.Option.{Option}
 use Prim.Native.Nat.{ℕ, _+_, _≤_}
@@ -7,6 +8,8 @@ use lib.ListN.{length}
 use Rattle.logic.specs.Sequent.{Sequent}
 use Rattle.logic.specs.Tree.{Rule, Tree, Trees, depth, depths, nodes, nodes*, premise-count}
 use Rattle.logic.specs.Verify as logic
+use Rattle.logic.specs.Verify.{shape-at}
+use Rattle.logic.specs.Strict.{strict-fault}
 use Rattle.wire.specs.Write.{write-node, write-nodes}
 use Rattle.wire.specs.Fits.{NodesFit, NodesFit*}
 use Rattle.tree.specs.Stands.{Stands}
@@ -21,6 +24,11 @@ use Rattle.verify.specs.declared.Walked.the-variants as walked
 abbrev pub WalkWithin : ℕ → Walked → Type 0
 WalkWithin len (walked.Passed next number) = (next ≤ len) × (number ≤ next)
 WalkWithin len (walked.Failed v) = Unit {0}
+
+-- the test at a node in strict mode, and in shape mode
+unfoldable pub mode-test : (is-strict : Bool) → Rule → Sequent → Trees → Option logic.Fault
+mode-test true = strict-fault
+mode-test false = shape-at
 
 -- the fault that the mode's test finds at a node
 pub record Faulted (test : Rule → Sequent → Trees → Option logic.Fault) (s : List ℕ) (n : Node) (x : Fault) : Type 0 where

@@ -1,36 +1,37 @@
 -- Laws of `Walks`: what a node's own test and its premises, one after another, make of the walk. Assumes nothing.
 use mathlib.Core.Path.{_≡_, refl, sym, ap, _∙_, subst}
+use mathlib.Core.Logic.{_⊎_, ⊎-elim}
 use mathlib.Core.Bool.{Bool, true, false}
-use mathlib.Core.List.{List, [], _∷_, _++_}
+use mathlib.Core.List.{List, _∷_}
 use mathlib.Core.Option.{Option, none, some}
-use Prim.Native.Nat.{ℕ, zero, suc, _+_, _-_, _≤_, _<_}
+use Prim.Native.Nat.{ℕ, suc, _+_, _-_, _≤_, _<_}
 use native.Mathlib.Omega.{arith}
 use native.Mathlib.Numerals.{add-one}
-use borrow.Author.Tests.{leb-true, leb-false}
-use lib.Dec.{leb}
 use lib.ListN.{length, length-append}
 use Rattle.logic.specs.Sequent.{Sequent}
 use Rattle.logic.specs.Tree.{Rule, Tree, Trees, node, ∅, _▹_, depth, depths, nodes, nodes*, premise-count}
 use Rattle.logic.specs.Verify as logic
-use Rattle.logic.specs.Verify.{own-verdict, first-verdict, verify-from, verify-premises, shape-at}
+use Rattle.logic.specs.Verify.{need, shape-fault, own-verdict, first-verdict, verify-from, verify-premises}
+use Rattle.logic.specs.Strict.{or-fault, strict-fault}
 use Rattle.wire.specs.Write.{two-bytes, write-node, write-nodes, write-tree, message}
 use Rattle.wire.specs.Read.{Read, got, refused, read-tree, highest-tree}
-use Rattle.wire.specs.Fits.{Bytes, NodesFit, NodesFit*}
+use Rattle.wire.specs.Fits.{Bytes, NodesFit, NodesFit*, TreeBack}
 use Rattle.wire.specs.TreeBytes.{write-read-tree}
-use Rattle.formula.specs.Answers.{coded}
 use Rattle.formula.specs.declared.Refusal.{Refusal}
 use Rattle.tree.specs.Answers.{tree-read}
 use Rattle.tree.specs.Stands.{Stands}
 use Rattle.tree.specs.StandsLaws.{stands-left, stands-right, stands-behind}
 use Rattle.tree.specs.Places.{rule-number, NodeFound}
 use Rattle.tree.specs.PlacesLaws.{node-long}
-use Rattle.tree.specs.ReadingLaws.{tree-refused, tree-short}
+use Rattle.tree.specs.ReadingLaws.{tree-refused}
+use Rattle.bags.specs.Runs.{Short}
+use Rattle.strict.specs.Steps.{LegalStep}
 use Rattle.tree.specs.declared.Node.{Node}
 use Rattle.tree.specs.declared.Subtree as code-subtree
 use Rattle.tree.specs.declared.Subtree.the-variants as subtree
-use Rattle.verify.specs.Verdicts.{fault-of, verdict-of, walk-of, checked}
+use Rattle.verify.specs.Verdicts.{fault-of, verdict-of, told, walk-of, checked}
 use Rattle.verify.specs.Shapes.{ShapeFault}
-use Rattle.verify.specs.Walks.{WalkWithin, Walk, PremisesWalk, Faulted}
+use Rattle.verify.specs.Walks.{WalkWithin, mode-test, Faulted, Walk, PremisesWalk}
 use Rattle.verify.specs.declared.Fault as code-fault
 use Rattle.verify.specs.declared.Fault.the-variants as fault
 use Rattle.verify.specs.declared.Verified.{Verified}
@@ -38,19 +39,66 @@ use Rattle.verify.specs.declared.Verified.the-variants as verified
 use Rattle.verify.specs.declared.Walked.{Walked}
 use Rattle.verify.specs.declared.Walked.the-variants as walked
 
--- a fault, and the verdict that tells it
-record Rejects (number wrappers : ℕ) (r : Rule) (o : Option logic.Fault) (v : Verified) : Type 0 where
-  fault : logic.Fault
-  is : o ≡ some fault
-  verdict : v ≡ verdict-of (logic.rejected r number wrappers fault)
+-- ---- the fault at a node, in both modes
 
--- shape mode's fault, for the walk in shape mode
-pub shape-faulted : {s : List ℕ} {n : Node} {x : code-fault.Fault} → ShapeFault s n x → Faulted shape-at s n x
-shape-faulted h = record { is = λ r q ps is fits. h .is r q ps is }
+-- the tags of the other faults
+pub other-tag : (tag : code-fault.Fault → ℕ) → tag fault.None ≡ 0 → {x : code-fault.Fault} → (tag x ≡ 1) ⊎ ((tag x ≡ 2) ⊎ (tag x ≡ 3)) → x ≡ fault.None → ⊥
+other-tag tag e {x} w k = let none : tag x ≡ 0 = ap tag k ∙ e in ⊎-elim (λ h. omega arith) (⊎-elim (λ h. omega arith) (λ h. omega arith)) w
+
+fault-none : (o : Option logic.Fault) → fault-of o ≡ fault.None → o ≡ none
+unfolding fault-of
+fault-none none e = refl
+fault-none (some logic.invalid-rule) e = let z : _≡_ {A = ℕ} 0 1 = cc in absurd (omega arith)
+fault-none (some (logic.wrong-premise-count expected given)) e = let z : _≡_ {A = ℕ} 0 1 = cc in absurd (omega arith)
+fault-none (some logic.context-mismatch) e = let z : _≡_ {A = ℕ} 0 1 = cc in absurd (omega arith)
+
+module _ {s : List ℕ} {n : Node} {x : code-fault.Fault} (shape : ShapeFault s n x) where
+  -- shape mode's comes first
+  pub fault-first : (is-strict : Bool) → (x ≡ fault.None → ⊥) → Faulted (mode-test is-strict) s n x
+  unfolding mode-test strict-fault fault-of
+  fault-first false h = record { is = λ r q ps is fits. shape .is r q ps is }
+  fault-first true h = record { is = λ r q ps is fits. go (shape-fault r q (premise-count ps)) _ (shape .is r q ps is) }
+    where
+      go : (o g : Option logic.Fault) → x ≡ fault-of o → x ≡ fault-of (or-fault o g)
+      go none g e = absurd (h e)
+      go (some f) g e = e
+
+  module _ (passed : x ≡ fault.None) {is-strict : Bool} where
+    pub fault-shape : is-strict ≡ false → Faulted (mode-test is-strict) s n fault.None
+    unfolding mode-test
+    fault-shape e = rw e (record { is = λ r q ps is fits. sym passed ∙ shape .is r q ps is })
+
+    -- in strict mode, where there is none, the step decides
+    module _ (mode : is-strict ≡ true) {b : Bool} (step : LegalStep s n b) where
+      fault-step : Faulted (mode-test is-strict) s n (fault-of (need b logic.context-mismatch none))
+      unfolding mode-test strict-fault
+      fault-step = rw mode (record {
+        is = λ r q ps is fits.
+            let no-fault = fault-none (shape-fault r q (premise-count ps)) (sym (shape .is r q ps is) ∙ passed) in
+            rw (no-fault, ← step .right r q ps is fits no-fault) refl;
+      })
+
+      pub fault-mismatch : b ≡ false → Faulted (mode-test is-strict) s n fault.Mismatch
+      unfolding fault-of
+      fault-mismatch e = rw e at fault-step
+
+      pub fault-legal : b ≡ true → Faulted (mode-test is-strict) s n fault.None
+      unfolding fault-of
+      fault-legal e = rw e at fault-step
+
+-- ---- a node
 
 depth-positive : (t : Tree) → 1 ≤ depth t
 unfolding depth
 depth-positive (node r q ps) = omega arith
+
+-- a fault is told by the verdict
+fault-told : {x : code-fault.Fault} (r : Rule) {m : ℕ} (number wrappers : ℕ) → (x ≡ fault.None → ⊥) → (o : Option logic.Fault) → m ≡ rule-number r → x ≡ fault-of o → (below : logic.Verdict) (end all : ℕ) → walked.Failed (told x m number wrappers) ≡ walk-of (own-verdict r number wrappers o below) end all
+unfolding fault-of told verdict-of walk-of
+fault-told r number wrappers h none e k below end all = absurd (h k)
+fault-told r number wrappers h (some logic.invalid-rule) e k below end all = rw (e, k)
+fault-told r number wrappers h (some (logic.wrong-premise-count expected given)) e k below end all = rw (e, k)
+fault-told r number wrappers h (some logic.context-mismatch) e k below end all = rw (e, k)
 
 module _ (test : Rule → Sequent → Trees → Option logic.Fault) (s : List ℕ) (at levels number wrappers : ℕ) (inside : at ≤ length s) (few : number ≤ at) where
   -- no level is left, or no byte: no tree stands there
@@ -68,47 +116,14 @@ module _ (test : Rule → Sequent → Trees → Option logic.Fault) (s : List �
     rule-is : (r : Rule) (q : Sequent) (ps : Trees) → Stands s at (write-node (node r q ps)) → NodesFit (node r q ps) → n .rule ≡ rule-number r
     rule-is r q ps there fits = found .is r q ps there (fits .0) .rule-is
 
-    -- a node whose own test finds a fault, with this verdict
-    walk-failed : (v : Verified) → ((r : Rule) (o : Option logic.Fault) → n .rule ≡ rule-number r → x ≡ fault-of o → Rejects number wrappers r o v) → Walk test s at levels number wrappers (walked.Failed v)
+    -- a node whose own test finds a fault
+    pub walk-failed : (x ≡ fault.None → ⊥) → Walk test s at levels number wrappers (walked.Failed (told x (n .rule) number wrappers))
     unfolding verify-from walk-of
-    walk-failed v h = record { within = tt; is = by-node }
+    walk-failed h = record { within = tt; is = by-node }
       where
-        by-node : (t : Tree) → Stands s at (write-node t) → NodesFit t → depth t ≤ levels → walked.Failed v ≡ walk-of (verify-from test t number wrappers) (at + length (write-node t)) (number + nodes t)
+        by-node : (t : Tree) → Stands s at (write-node t) → NodesFit t → depth t ≤ levels → walked.Failed (told x (n .rule) number wrappers) ≡ walk-of (verify-from test t number wrappers) (at + length (write-node t)) (number + nodes t)
         by-node (node r q ps) there fits low =
-            let no = h r (test r q ps) (rule-is r q ps there fits) (fault-is r q ps there fits) in rw (no .is) (ap walked.Failed (no .verdict))
-
-    pub walk-invalid : x ≡ fault.Invalid → Walk test s at levels number wrappers (walked.Failed (verified.Invalid (n .rule) number wrappers))
-    unfolding verdict-of fault-of
-    walk-invalid e = walk-failed _ by-fault
-      where
-        by-fault : (r : Rule) (o : Option logic.Fault) → n .rule ≡ rule-number r → x ≡ fault-of o → Rejects number wrappers r o (verified.Invalid (n .rule) number wrappers)
-        by-fault r none e₁ e₂ = let z : _≡_ {A = ℕ} 0 1 = cc in absurd (omega arith)
-        by-fault r (some logic.invalid-rule) e₁ e₂ = record { fault = logic.invalid-rule; is = refl; verdict = ap (λ (m : ℕ). verified.Invalid m number wrappers) e₁ }
-        by-fault r (some (logic.wrong-premise-count expected given)) e₁ e₂ = let z : _≡_ {A = ℕ} 0 1 = cc in absurd (omega arith)
-        by-fault r (some logic.context-mismatch) e₁ e₂ = let z : _≡_ {A = ℕ} 0 1 = cc in absurd (omega arith)
-
-    pub walk-count : {expected given : ℕ} → x ≡ fault.Count expected given → Walk test s at levels number wrappers (walked.Failed (verified.WrongCount (n .rule) number wrappers expected given))
-    unfolding verdict-of fault-of
-    walk-count {expected} {given} e = walk-failed _ by-fault
-      where
-        by-fault : (r : Rule) (o : Option logic.Fault) → n .rule ≡ rule-number r → x ≡ fault-of o → Rejects number wrappers r o (verified.WrongCount (n .rule) number wrappers expected given)
-        by-fault r none e₁ e₂ = let z : _≡_ {A = ℕ} 0 1 = cc in absurd (omega arith)
-        by-fault r (some logic.invalid-rule) e₁ e₂ = let z : _≡_ {A = ℕ} 0 1 = cc in absurd (omega arith)
-        by-fault r (some (logic.wrong-premise-count a b)) e₁ e₂ =
-            let ea : expected ≡ a = cc in
-            let eb : given ≡ b = cc in
-            record { fault = logic.wrong-premise-count a b; is = refl; verdict = rw (e₁, ea, eb) refl }
-        by-fault r (some logic.context-mismatch) e₁ e₂ = let z : _≡_ {A = ℕ} 0 1 = cc in absurd (omega arith)
-
-    pub walk-mismatch : x ≡ fault.Mismatch → Walk test s at levels number wrappers (walked.Failed (verified.Mismatch (n .rule) number wrappers))
-    unfolding verdict-of fault-of
-    walk-mismatch e = walk-failed _ by-fault
-      where
-        by-fault : (r : Rule) (o : Option logic.Fault) → n .rule ≡ rule-number r → x ≡ fault-of o → Rejects number wrappers r o (verified.Mismatch (n .rule) number wrappers)
-        by-fault r none e₁ e₂ = let z : _≡_ {A = ℕ} 0 1 = cc in absurd (omega arith)
-        by-fault r (some logic.invalid-rule) e₁ e₂ = let z : _≡_ {A = ℕ} 0 1 = cc in absurd (omega arith)
-        by-fault r (some (logic.wrong-premise-count expected given)) e₁ e₂ = let z : _≡_ {A = ℕ} 0 1 = cc in absurd (omega arith)
-        by-fault r (some logic.context-mismatch) e₁ e₂ = record { fault = logic.context-mismatch; is = refl; verdict = ap (λ (m : ℕ). verified.Mismatch m number wrappers) e₁ }
+            fault-told r number wrappers h (test r q ps) (rule-is r q ps there fits) (fault-is r q ps there fits) _ (at + length (write-node (node r q ps))) (number + nodes (node r q ps))
 
     -- a node that passes its own test: its premises decide
     pub walk-premises : x ≡ fault.None → 0 < levels → {w : Walked} → PremisesWalk test s (n .next) (n .premises) (levels - 1) (number + 1) (wrappers + 1) w → Walk test s at levels number wrappers w
@@ -116,10 +131,7 @@ module _ (test : Rule → Sequent → Trees → Option logic.Fault) (s : List �
     walk-premises e level {w} p = record { within = p .within; is = by-node }
       where
         by-fault : (r : Rule) (o : Option logic.Fault) (rest : logic.Verdict) → x ≡ fault-of o → own-verdict r number wrappers o rest ≡ rest
-        by-fault r none rest e₂ = refl
-        by-fault r (some logic.invalid-rule) rest e₂ = let z : _≡_ {A = ℕ} 0 1 = cc in absurd (omega arith)
-        by-fault r (some (logic.wrong-premise-count expected given)) rest e₂ = let z : _≡_ {A = ℕ} 0 1 = cc in absurd (omega arith)
-        by-fault r (some logic.context-mismatch) rest e₂ = let z : _≡_ {A = ℕ} 0 1 = cc in absurd (omega arith)
+        by-fault r o rest e₂ = ap (λ o. own-verdict r number wrappers o rest) (fault-none o (sym e₂ ∙ e))
 
         by-node : (t : Tree) → Stands s at (write-node t) → NodesFit t → depth t ≤ levels → w ≡ walk-of (verify-from test t number wrappers) (at + length (write-node t)) (number + nodes t)
         by-node (node r q ps) there fits low =
@@ -218,13 +230,32 @@ module _ (test : Rule → Sequent → Trees → Option logic.Fault) (s : List �
 
 -- ---- the whole tree
 
--- a message that was read has its first three bytes
-pub three-bytes : (s : List ℕ) {x : code-subtree.Subtree} {next deep : ℕ} → x ≡ tree-read (length s) (read-tree s) → x ≡ subtree.Whole next deep → 3 ≤ length s
-three-bytes s {x} e₁ e₂ = go (leb 3 (length s)) refl
-  where
-    go : (b : Bool) → leb 3 (length s) ≡ b → 3 ≤ length s
-    go true h = leb-true 3 (length s) h
-    go false h = let short = tree-short s (leb-false 3 (length s) h) in let z : _≡_ {A = ℕ} 0 1 = cc in absurd (omega arith)
+-- the tree of a message that was read
+record WasRead (s : List ℕ) : Type 0 where
+  tree : Tree
+  rest : List ℕ
+  is : read-tree s ≡ got tree rest
+  back : TreeBack s tree rest
+  long : length s ≡ 3 + length (write-node tree)
+
+module _ (s : List ℕ) (bytes : Bytes s) {x : code-subtree.Subtree} {next deep : ℕ} (e₁ : x ≡ tree-read (length s) (read-tree s)) (e₂ : x ≡ subtree.Whole next deep) where
+  was-read : WasRead s
+  unfolding tree-read write-tree message
+  was-read = go (read-tree s) refl e₁
+    where
+      go : (m : Read Tree) → read-tree s ≡ m → x ≡ tree-read (length s) m → WasRead s
+      go (got t rest) e e₃ =
+          let back = write-read-tree s t rest bytes e in
+          let n : suc (suc (suc (length (write-node t)))) ≡ length s = ap length (back .bytes-are) in
+          record { tree = t; rest = rest; is = e; back = back; long = omega arith }
+      go (refused k) e e₃ = let z : _≡_ {A = ℕ} 0 1 = cc in absurd (omega arith)
+
+  -- it has its first three bytes, and a body that two bytes count
+  pub three-bytes : 3 ≤ length s
+  three-bytes = omega (arith, was-read .long)
+
+  pub read-short : Short s
+  read-short = record { short = omega (arith, was-read .long, was-read .back .fits .body-short) }
 
 -- the walk of the tree that was read, and the answer
 record Through (test : Rule → Sequent → Trees → Option logic.Fault) (s : List ℕ) (w : Walked) : Type 0 where
@@ -242,21 +273,18 @@ module _ (test : Rule → Sequent → Trees → Option logic.Fault) (s : List �
   module _ (bytes : Bytes s) {x : code-subtree.Subtree} {next deep : ℕ} (e₁ : x ≡ tree-read (length s) (read-tree s)) (e₂ : x ≡ subtree.Whole next deep) {w : Walked} (walk : Walk test s 3 highest-tree 0 0 w) where
     -- the tree that was read stands behind the three bytes
     through : Through test s w
-    unfolding checked tree-read write-tree message
-    through = go (read-tree s) refl e₁
-      where
-        go : (m : Read Tree) → read-tree s ≡ m → x ≡ tree-read (length s) m → Through test s w
-        go (got t rest) e e₃ =
-            let back = write-read-tree s t rest bytes e in
-            let there : Stands s 3 (write-node t) = rw (back .bytes-are) at (stands-behind (1 ∷ two-bytes (length (write-node t))) (write-node t)) in
-            record {
-              verdict = verify-from test t 0 0;
-              answer = rw e;
-              end = 3 + length (write-node t);
-              all = 0 + nodes t;
-              walked-is = walk .is t there (back .fits .nodes-fit) (back .fits .depth-fits);
-            }
-        go (refused k) e e₃ = let z : _≡_ {A = ℕ} 0 1 = cc in absurd (omega arith)
+    unfolding checked write-tree message
+    through =
+        let was = was-read s bytes e₁ e₂ in
+        let t = was .tree in
+        let there : Stands s 3 (write-node t) = rw (was .back .bytes-are) at (stands-behind (1 ∷ two-bytes (length (write-node t))) (write-node t)) in
+        record {
+          verdict = verify-from test t 0 0;
+          answer = rw (was .is);
+          end = 3 + length (write-node t);
+          all = 0 + nodes t;
+          walked-is = walk .is t there (was .back .fits .nodes-fit) (was .back .fits .depth-fits);
+        }
 
     pub checked-accepted : {next′ number : ℕ} → w ≡ walked.Passed next′ number → verified.Accepted ≡ checked test (read-tree s)
     unfolding verdict-of walk-of

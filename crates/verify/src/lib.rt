@@ -1,14 +1,17 @@
-// `verify_proof` of verify.rs, on a tree in bytes. All reading ends before any checking: a tree that cannot be read is refused.
+// `verify_proof` of verify.rs, on a tree in bytes, in shape mode and in strict mode. All reading ends before any checking: a tree that cannot be read is refused.
 ghost use mathlib.Core.Path.{_≡_};
 ghost use mathlib.Core.Bool.{Bool};
 ghost use Prim.Native.Nat.{_+_, _≤_};
 ghost use lib.ListN.{length};
 ghost use Rattle.logic.specs.Verify.{need-premises, shape-at};
+ghost use Rattle.logic.specs.Strict.{strict-fault};
 ghost use Rattle.wire.specs.Read.{read-tree};
-ghost use Rattle.tree.specs.Places.{Within, NodeWithin};
+ghost use Rattle.tree.specs.Places.{Within};
+ghost use Rattle.bags.specs.Runs.{Short};
+ghost use Rattle.strict.specs.Zones.{NodeInside};
 ghost use Rattle.verify.specs.Shapes.{in-order, HasTag, IsAxiom, IsOne, ShapeFault};
-ghost use Rattle.verify.specs.Verdicts.{no-fault, fault-of, checked};
-ghost use Rattle.verify.specs.Walks.{Walk, PremisesWalk};
+ghost use Rattle.verify.specs.Verdicts.{no-fault, fault-of, told, checked};
+ghost use Rattle.verify.specs.Walks.{mode-test, Faulted, Walk, PremisesWalk};
 use formula::Refusal;
 use tree::HIGHEST_TREE;
 use tree::Node;
@@ -167,10 +170,61 @@ fn shape_fault(s: &[u8], n: Node) -> Fault
     }
 }
 
+// The fault at a node: shape mode's, and in strict mode, where there is none, a mismatch unless the step is legal.
+fn fault_at(s: &[u8], n: Node, is_strict: bool) -> Fault
+    requires { ⌜ Short (now s) × NodeInside (length (now s)) n ⌝ }
+    ensures { λ r. ⌜ Faulted (mode-test «is_strict») (now (s .entry)) n r ⌝ }
+{
+    let fault = shape_fault(s, n);
+    let Fault::None = fault else {
+        return fault;
+    };
+    if !is_strict {
+        return Fault::None;
+    }
+    if !strict::legal(s, n) {
+        return Fault::Mismatch;
+    }
+    Fault::None
+}
+
+// The verdict that tells a fault.
+fn verdict(fault: Fault, rule: u8, node: usize, wrappers: usize) -> Verified
+    ensures { λ r. ⌜ r ≡ told fault rule node wrappers ⌝ }
+{
+    match fault {
+        Fault::None => Verified::Accepted,
+        Fault::Invalid => Verified::Invalid {
+            rule,
+            node,
+            wrappers,
+        },
+        Fault::Count { expected, got } => Verified::WrongCount {
+            rule,
+            node,
+            wrappers,
+            expected,
+            got,
+        },
+        Fault::Mismatch => Verified::Mismatch {
+            rule,
+            node,
+            wrappers,
+        },
+    }
+}
+
 // verify.rs: `verify_proof`. The node's own test first, then its premises from the left.
-fn verify_node(s: &[u8], at: usize, levels: usize, number: usize, wrappers: usize) -> Walked
-    requires { ⌜ (at ≤ length (now s)) × (number ≤ at) × (wrappers + levels ≤ 65) ⌝ }
-    ensures { λ r. ⌜ Walk shape-at (now (s .entry)) at levels number wrappers r ⌝ }
+fn verify_node(
+    s: &[u8],
+    at: usize,
+    is_strict: bool,
+    levels: usize,
+    number: usize,
+    wrappers: usize,
+) -> Walked
+    requires { ⌜ (at ≤ length (now s)) × (number ≤ at) × (wrappers + levels ≤ 65) × Short (now s) ⌝ }
+    ensures { λ r. ⌜ Walk (mode-test «is_strict») (now (s .entry)) at levels number wrappers r ⌝ }
 {
     if levels == 0 {
         return Walked::Passed { next: at, number };
@@ -179,45 +233,38 @@ fn verify_node(s: &[u8], at: usize, levels: usize, number: usize, wrappers: usiz
         return Walked::Passed { next: at, number };
     }
     let n = tree::node_at(s, at);
-    let rule = n.rule;
-    match shape_fault(s, n) {
-        Fault::None => verify_premises(s, n.next, n.premises, levels - 1, number + 1, wrappers + 1),
-        Fault::Invalid => Walked::Failed(Verified::Invalid {
-            rule,
-            node: number,
-            wrappers,
-        }),
-        Fault::Count { expected, got } => Walked::Failed(Verified::WrongCount {
-            rule,
-            node: number,
-            wrappers,
-            expected,
-            got,
-        }),
-        Fault::Mismatch => Walked::Failed(Verified::Mismatch {
-            rule,
-            node: number,
-            wrappers,
-        }),
-    }
+    let fault = fault_at(s, n, is_strict);
+    let Fault::None = fault else {
+        return Walked::Failed(verdict(fault, n.rule, number, wrappers));
+    };
+    verify_premises(
+        s,
+        n.next,
+        n.premises,
+        is_strict,
+        levels - 1,
+        number + 1,
+        wrappers + 1,
+    )
 }
 
 fn verify_premises(
     s: &[u8],
     at: usize,
     count: usize,
+    is_strict: bool,
     levels: usize,
     number: usize,
     wrappers: usize,
 ) -> Walked
-    requires { ⌜ (at ≤ length (now s)) × (number ≤ at) × (wrappers + levels ≤ 65) ⌝ }
-    ensures { λ r. ⌜ PremisesWalk shape-at (now (s .entry)) at count levels number wrappers r ⌝ }
+    requires { ⌜ (at ≤ length (now s)) × (number ≤ at) × (wrappers + levels ≤ 65) × Short (now s) ⌝ }
+    ensures { λ r. ⌜ PremisesWalk (mode-test «is_strict») (now (s .entry)) at count levels number wrappers r ⌝ }
 {
     let mut left = count;
     let mut p = at;
     let mut m = number;
     while left > 0 {
-        match verify_node(s, p, levels, m, wrappers) {
+        match verify_node(s, p, is_strict, levels, m, wrappers) {
             Walked::Failed(v) => {
                 return Walked::Failed(v);
             }
@@ -231,17 +278,31 @@ fn verify_premises(
     Walked::Passed { next: p, number: m }
 }
 
-// Shape mode.
-pub fn verify(s: &[u8]) -> Verified
-    ensures { λ r. ⌜ r ≡ checked shape-at (read-tree (now (s .entry))) ⌝ }
+// The tree is read, and then walked from its root.
+fn verify_in(s: &[u8], is_strict: bool) -> Verified
+    ensures { λ r. ⌜ r ≡ checked (mode-test «is_strict») (read-tree (now (s .entry))) ⌝ }
 {
     match tree::read_tree(s) {
         Subtree::Refused(why) => Verified::Refused(why),
         Subtree::Whole { next: _, depth: _ } => {
-            match verify_node(s, 3, HIGHEST_TREE, 0, 0) {
+            match verify_node(s, 3, is_strict, HIGHEST_TREE, 0, 0) {
                 Walked::Passed { next: _, number: _ } => Verified::Accepted,
                 Walked::Failed(v) => v,
             }
         }
     }
+}
+
+// Shape mode: verify.rs's own tests.
+pub fn verify(s: &[u8]) -> Verified
+    ensures { λ r. ⌜ r ≡ checked shape-at (read-tree (now (s .entry))) ⌝ }
+{
+    verify_in(s, false)
+}
+
+// Strict mode: every step is legal too.
+pub fn verify_strict(s: &[u8]) -> Verified
+    ensures { λ r. ⌜ r ≡ checked strict-fault (read-tree (now (s .entry))) ⌝ }
+{
+    verify_in(s, true)
 }

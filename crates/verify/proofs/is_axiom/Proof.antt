@@ -2,7 +2,6 @@
 use mathlib.Core.Logic.{⊎-elim}
 use native.Mathlib.Omega.{arith}
 use Rattle.verify.specs.ShapesLaws.{not-axiom, axiom-found, axiom-found-turned}
-use borrow.Author.Needs.{needs}
 use Rattle.verify.proofs.is_axiom.Statement.{statement}
 use Rattle.verify.proofs.is_axiom.Tie as tie
 

@@ -1,7 +1,6 @@
 -- `verify::is_one` meets its contract. Assumes nothing.
 use native.Mathlib.Omega.{arith}
 use Rattle.verify.specs.ShapesLaws.{not-one, one-found}
-use borrow.Author.Needs.{needs}
 use Rattle.verify.proofs.is_one.Statement.{statement}
 use Rattle.verify.proofs.is_one.Tie as tie
 

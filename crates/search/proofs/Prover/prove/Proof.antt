@@ -1,4 +1,5 @@
 -- `prove` is a visit at depth 0, with the limit's own depth left. Assumes nothing.
+use native.Mathlib.Omega.{arith}
 use borrow.Author.Needs.{needs}
 use Rattle.search.proofs.Entry.{ready-start, start-proves}
 use Rattle.search.proofs.Prover.prove.Statement.{statement}
@@ -14,7 +15,7 @@ zero-requires c κs = search needs
 
 -- src/lib.rt:48:9
 visit-requires : tie.Need-visit-requires
-visit-requires c κs = ready-start (c .before .before .before .before .before .before .pre) (c .before .before .zero .ensures)
+visit-requires c κs = ready-start (c .before .before .before .before .before .before .pre) (c .before .before .zero .ensures) _ (omega (arith, c .before .before .before .before .before .before .pre .shallow))
 
 -- src/lib.rt:42:5
 same-length : tie.Need-same-length
