@@ -14,6 +14,7 @@ pub const TOO_MANY_FAILURES: u8 = 9;
 pub const TOO_LONG: u8 = 10;
 pub const INVALID_RULE: u8 = 13;
 pub const WRONG_PREMISE_COUNT: u8 = 14;
+pub const CONTEXT_MISMATCH: u8 = 15;
 
 pub const VERSION: u8 = 1;
 pub const MAX_FORMULA_HEIGHT: usize = 64;

@@ -1,11 +1,13 @@
 //! Makes the contents of the stored list, all from fixed seeds.
 
+pub mod costly;
 pub mod families;
 pub mod formulas;
 pub mod fragment;
 pub mod sequents;
 pub mod sessions;
 pub mod settled;
+pub mod steps;
 pub mod trees;
 
 use crate::question::Question;

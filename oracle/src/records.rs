@@ -1,6 +1,7 @@
 //! The three stored lists. Each is a sequence of records, big-endian, with no header. docs/ORACLE.md gives the formats.
 
 use crate::cursor::{put_counted, put_long, Cursor, Read};
+use crate::strict::strict_verdict;
 use crate::verdict::{verdict, Verdict};
 use crate::{formula, tree};
 use lolli_core::{Formula, Proof};
@@ -49,17 +50,18 @@ impl FormulaRecord {
     }
 }
 
-/// trees: a tree, its depth and the verdict on it.
+/// trees: a tree, its depth, the verdict on it, and that of strict mode, by the model.
 #[derive(Clone, Debug, PartialEq, Eq)]
 pub struct TreeRecord {
     pub message: Vec<u8>,
     pub depth: u16,
     pub verdict: Verdict,
+    pub strict: Verdict,
 }
 
 impl TreeRecord {
     pub fn of(message: Vec<u8>, proof: &Proof) -> Self {
-        TreeRecord { message, depth: proof.depth() as u16, verdict: verdict(proof) }
+        TreeRecord { message, depth: proof.depth() as u16, verdict: verdict(proof), strict: strict_verdict(proof) }
     }
 
     /// The record of a tree message, asked anew.
@@ -70,24 +72,16 @@ impl TreeRecord {
     pub fn write(&self, out: &mut Vec<u8>) {
         put_long(out, &self.message);
         out.extend(self.depth.to_be_bytes());
-        out.extend([self.verdict.answer, self.verdict.rule]);
-        out.extend(self.verdict.node.to_be_bytes());
-        out.extend(self.verdict.wrappers.to_be_bytes());
-        out.extend([self.verdict.expected, self.verdict.got]);
+        self.verdict.write(out);
+        self.strict.write(out);
     }
 
     fn read(cursor: &mut Cursor) -> Read<Self> {
         Ok(TreeRecord {
             message: long(cursor)?,
             depth: cursor.two()?,
-            verdict: Verdict {
-                answer: cursor.byte()?,
-                rule: cursor.byte()?,
-                node: cursor.two()?,
-                wrappers: cursor.two()?,
-                expected: cursor.byte()?,
-                got: cursor.byte()?,
-            },
+            verdict: Verdict::read(cursor)?,
+            strict: Verdict::read(cursor)?,
         })
     }
 }

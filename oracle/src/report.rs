@@ -1,6 +1,6 @@
 //! Counts by kind, as printed by `record`.
 
-use crate::answer::{FOUND, INVALID_RULE, WRONG_PREMISE_COUNT};
+use crate::answer::{CONTEXT_MISMATCH, FOUND, INVALID_RULE, WRONG_PREMISE_COUNT};
 use crate::records::{Asked, Session, TreeRecord};
 use crate::tree::{self, rule_number, RULES, RULE_NAMES};
 use lolli_core::Proof;
@@ -12,11 +12,20 @@ pub fn trees(records: &[TreeRecord]) {
         records.iter().filter(of).count()
     };
     let nodes = rule_nodes(records.iter().map(|record| &record.message[..]));
+    let mismatches = |rule: usize| {
+        let of =
+            |record: &&TreeRecord| usize::from(record.strict.rule) == rule && record.strict.answer == CONTEXT_MISMATCH;
+        records.iter().filter(of).count()
+    };
     println!("trees accepted: {}", records.iter().filter(|record| record.verdict.is_accepted()).count());
-    println!("rule: nodes, 13, 14");
+    println!("trees accepted in strict mode: {}", records.iter().filter(|record| record.strict.is_accepted()).count());
+    let legal = records.iter().filter(|record| record.strict.is_accepted());
+    let legal = rule_nodes(legal.map(|record| &record.message[..]));
+    println!("rule: nodes, 13, 14, 15 in strict mode, nodes of trees accepted in strict mode");
     for rule in 0..usize::from(RULES) {
         let (invalid, wrong_count) = (failing(rule, INVALID_RULE), failing(rule, WRONG_PREMISE_COUNT));
-        println!("  {}: {}, {invalid}, {wrong_count}", RULE_NAMES[rule], nodes[rule]);
+        let (name, all, mismatches, legal) = (RULE_NAMES[rule], nodes[rule], mismatches(rule), legal[rule]);
+        println!("  {name}: {all}, {invalid}, {wrong_count}, {mismatches}, {legal}");
     }
     let below = records.iter().filter(|record| record.verdict.wrappers > 0).count();
     let most = records.iter().map(|record| record.verdict.wrappers).max().unwrap_or(0);

@@ -1,6 +1,7 @@
 //! Asks the unchanged verifier. Its error names no node: the node is found by walking along.
 
 use crate::answer::{ACCEPTED, INVALID_RULE, WRONG_PREMISE_COUNT};
+use crate::cursor::{Cursor, Read};
 use crate::tree::{rule_number, sequent};
 use lolli_core::{Proof, Rule};
 use lolli_prove::{verify_proof, ProofError};
@@ -61,6 +62,12 @@ fn first_failing<'a>(tree: &'a Proof, next: &mut u16, distance: u16) -> Option<(
     tree.premises.iter().find_map(|premise| first_failing(premise, next, distance + 1))
 }
 
+/// The verdict on a node alone, as if at the root, if the verifier fails it.
+pub fn own_verdict(node: &Proof) -> Option<Verdict> {
+    let (answer, expected, got) = told(&own_error(node)?);
+    Some(Verdict { answer, rule: rule_number(&node.rule), expected, got, ..Verdict::default() })
+}
+
 /// What the verifier says of a node whose premises are all accepted: Blur is, with any conclusion.
 fn own_error(node: &Proof) -> Option<ProofError> {
     let accepted = Proof { conclusion: sequent(vec![], vec![]), rule: Rule::Blur, premises: vec![] };
@@ -75,6 +82,24 @@ fn own_error(node: &Proof) -> Option<ProofError> {
 impl Verdict {
     pub fn is_accepted(&self) -> bool {
         self.answer == ACCEPTED
+    }
+
+    pub fn write(&self, out: &mut Vec<u8>) {
+        out.extend([self.answer, self.rule]);
+        out.extend(self.node.to_be_bytes());
+        out.extend(self.wrappers.to_be_bytes());
+        out.extend([self.expected, self.got]);
+    }
+
+    pub fn read(cursor: &mut Cursor) -> Read<Self> {
+        Ok(Verdict {
+            answer: cursor.byte()?,
+            rule: cursor.byte()?,
+            node: cursor.two()?,
+            wrappers: cursor.two()?,
+            expected: cursor.byte()?,
+            got: cursor.byte()?,
+        })
     }
 }
 

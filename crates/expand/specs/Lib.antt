@@ -3,3 +3,7 @@ pub mod ShortLaws
 pub mod InMemory
 pub mod InMemoryLaws
 pub mod Runs
+pub mod Negations
+pub mod Writing
+pub mod Trees
+pub mod TreesLaws

@@ -1,8 +1,6 @@
-// Short trees are definitions and theorems so far, in specs/. This one function makes the folder a crate until the writer of trees stands here.
-ghost use mathlib.Core.Path.{_≡_};
-
-pub fn keep(x: usize) -> usize
-    ensures { λ r. ⌜ r ≡ x ⌝ }
-{
-    x
-}
+// A found tree's bytes from its node words. A word is a rule, a place and a mask, and the words stand in preorder; what each node concludes is worked out from the question downward, so no
+// sequent is ever stored (specs/Short.antt: `expand`).
+pub mod negations; // negations.rt: which held formula is the negation of which
+pub mod steps; // steps.rt: what a node concludes and what its premises are
+pub mod bytes; // bytes.rt: held formulas and zones in bytes
+pub mod tree; // tree.rt: a tree's length, and its bytes

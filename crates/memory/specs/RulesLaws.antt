@@ -1,6 +1,7 @@
 -- A memory is well-formed exactly where it keeps document 01's rules and is written as it must be. Assumes nothing.
 use mathlib.Core.Path.{_≡_, sym, ap, _∙_}
 use mathlib.Core.Logic.{_↔_, ⊎-elim, inl, inr}
+use mathlib.Core.Bool.{Bool, true, false}
 use mathlib.Core.List.{List}
 use Prim.Native.Nat.{ℕ, suc, _+_, _*_, _/_, _≤_, _<_}
 use native.Mathlib.Omega.{arith}
@@ -8,6 +9,7 @@ use lib.ListN.{getD, length, length-drop}
 use lib.Seq.{length-take-le}
 use Rattle.logic.specs.Formula as formula
 use Rattle.logic.specs.Formula.{Formula, One}
+use Rattle.held.specs.Answers.{Tells}
 use Rattle.held.specs.OrderLaws.{le-or-lt}
 use Rattle.held.specs.Signs.{node}
 use Rattle.held.specs.SignsLaws.{height-low, height-mid, height-high, size-unit, size-name, size-mid, size-high}
@@ -232,3 +234,8 @@ module _ (m : List ℕ) (rules : Rules m) (layout : Layout m) where
 
 pub wf-is-rules : (m : List ℕ) → Wf m ↔ (Rules m × Layout m)
 wf-is-rules m = (λ w. (wf-rules m w, wf-layout m w), λ r. rules-wf m (r .0) (r .1))
+
+-- so the test tells exactly whether the rules are kept
+pub tells-rules : (m : List ℕ) (r : Bool) → Tells r (Wf m) → Tells r (Rules m × Layout m)
+tells-rules m true w = wf-is-rules m .0 w
+tells-rules m false h = λ r. h (wf-is-rules m .1 r)

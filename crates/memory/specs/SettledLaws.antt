@@ -3,14 +3,15 @@ use mathlib.Core.Path.{_≡_, refl, sym, ap, subst, _∙_}
 use mathlib.Core.Logic.{⊎-elim}
 use mathlib.Core.Bool.{Bool, true, false, false≢true}
 use mathlib.Core.List.{List, map}
-use Prim.Native.Nat.{ℕ, _<_}
+use Prim.Native.Nat.{ℕ, zero, suc, _+_, _-_, _≤_, _<_}
 use native.Mathlib.Omega.{arith}
-use lib.ListN.{length}
+use lib.ListN.{getD, length}
+use lib.Seq.{getD-take, getD-drop}
 use Rattle.logic.specs.Formula.{Formula}
 use Rattle.logic.specs.Key.{Key}
 use Rattle.logic.specs.SameLaws.{same-sym, same-trans}
 use Rattle.held.specs.Answers.{Tells}
-use Rattle.held.specs.OrderLaws.{eq-or-not}
+use Rattle.held.specs.OrderLaws.{le-or-lt, eq-or-not}
 use Rattle.held.specs.Words as formulas
 use Rattle.held.specs.WordsLaws as formula-laws
 use Rattle.failures.specs.Alike.{Alike}
@@ -18,8 +19,9 @@ use Rattle.failures.specs.AlikeLaws.{alike-of, alike-trans, alike-snoc}
 use Rattle.failures.specs.Failed as failures
 use Rattle.failures.specs.FailedLaws as failure-laws
 use Rattle.failures.specs.Items.{key-of}
-use Rattle.failures.specs.Records.{records}
-use Rattle.memory.specs.Meaning.{words, formula-words, failure-words, holds, held-count, told, failed, Wf, ResetTo}
+use Rattle.failures.specs.Records.{tally, records}
+use Rattle.memory.specs.Meaning.{words, formula-words, failure-words, holds, held-count, told, failed, Wf, Emptied, ResetTo}
+use Rattle.memory.specs.MeaningLaws.{holds-length}
 use Rattle.memory.specs.PartsLaws.{parts-once}
 use Rattle.memory.specs.Shapes.{Spelled, SpelledOr, Filed, was-known, is-new, Recorded, NoPlace, RecordedOr}
 use Rattle.memory.specs.declared.shape.Spelling.{Spelling}
@@ -49,6 +51,35 @@ tells-once P true true t u = refl
 tells-once P true false t u = absurd (u t)
 tells-once P false true t u = absurd (t u)
 tells-once P false false t u = refl
+
+-- where nothing is held, every word is zero
+module _ (m : List ℕ) (z : Emptied m) where
+  no-formulas : held-count m ≡ 0
+  no-formulas = sym (holds-length m) ∙ ap length (z .no-formula)
+
+  no-failures : tally (failure-words m) ≡ 0
+  unfolding failed
+  no-failures = sym (failure-laws.failed-length (formulas.told (formula-words m)) (failure-words m)) ∙ ap length (z .no-failure)
+
+  formula-zero : (k : ℕ) → k < 12289 → getD (formula-words m) k 0 ≡ 0
+  unfolding held-count
+  formula-zero zero l = no-formulas
+  formula-zero (suc k) l = ⊎-elim (λ h. z .wf .formulas .unused .zero (suc k) (omega (arith, no-formulas)) l) (λ h. z .wf .formulas .rest .zero (suc k) (omega (arith, no-formulas)) h) (le-or-lt 10241 (suc k))
+
+  failure-zero : (k : ℕ) → k < 32001 → getD (failure-words m) k 0 ≡ 0
+  failure-zero zero l = no-failures
+  failure-zero (suc k) l = z .wf .failures .rest .zero (suc k) (omega (arith, no-failures)) l
+
+  pub emptied-zero : (k : ℕ) → k < words → getD m k 0 ≡ 0
+  emptied-zero k l = ⊎-elim back front (le-or-lt 12289 k)
+    where
+      front : k < 12289 → getD m k 0 ≡ 0
+      front h = sym (getD-take 12289 m k 0 h) ∙ formula-zero k h
+
+      back : 12289 ≤ k → getD m k 0 ≡ 0
+      back h =
+          let e : 12289 + (k - 12289) ≡ k = omega arith in
+          rw (← e) (sym (getD-drop 12289 m (k - 12289) 0) ∙ failure-zero (k - 12289) (omega arith))
 
 -- `reset`
 pub reset-once : (m m' m'' : List ℕ) (r s : ℕ) → ResetTo m r m' → ResetTo m s m'' → (r ≡ s) × (m' ≡ m'')

@@ -1,5 +1,5 @@
-// Replays the oracle's answers on trees (docs/ORACLE.md): the depth of every tree of the list and shape mode's verdict on it, with rule, node, wrappers, expected and got, are compared with what the Rust
-// said. Then trees whose answers are settled.
+// Replays the list of trees (docs/ORACLE.md): the depth of every tree and shape mode's verdict on it, with rule, node, wrappers, expected and got, are compared with what the Rust said, and strict mode's
+// verdict with what the model said. Then trees whose answers are settled.
 mod settled;
 mod verdict;
 
@@ -32,11 +32,12 @@ fn is_deep(s: &[u8], depth: usize) -> bool {
     d == depth
 }
 
-// The tree's depth and the verdict on it are the list's.
+// The tree's depth and the verdicts on it are the list's.
 fn agrees(s: &[u8]) -> bool {
     let measures = is_deep(s, stored::number());
     let verifies = same(told(verify::verify(s)), said());
-    measures && verifies
+    let is_strict = same(told(verify::verify_strict(s)), said());
+    measures && verifies && is_strict
 }
 
 // The longest message: its body is of 65,535 bytes.
@@ -66,6 +67,7 @@ fn main() {
     settled::frames().print(b" settled answers at the frame");
     settled::nodes().print(b" settled answers at a node");
     settled::verdicts().print(b" settled verdicts");
+    settled::steps().print(b" settled steps");
     settled::widths().print(b" settled answers at wide sequents");
     settled::chains().print(b" settled answers at high trees");
     settled::heights().print(b" settled answers at high formulas");

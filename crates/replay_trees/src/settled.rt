@@ -104,6 +104,53 @@ pub fn verdicts() -> Tally {
         ))
 }
 
+// The verdicts of both modes on the tree.
+fn strict_row(s: &[u8], expected: Verdict, in_strict: Verdict) -> bool {
+    let is_strict = same(told(verify::verify_strict(s)), in_strict);
+    row(s, expected) && is_strict
+}
+
+// Steps in both modes: ParIntro that takes an implication beside a Par; Blur, which is no step; a step that is not legal over a node of the wrong shape; Cut at (a1⊸a2)⊸a3 with its plain negation, and with its premises in
+// the other order; Dereliction that keeps a copy, and that keeps none.
+pub fn steps() -> Tally {
+    Tally::new()
+        .with(strict_row(
+            b"\x01\x00\x29\x05\x00\x0F\x07\x04\x00\x02\x04\x00\x03\x0A\x04\x00\x01\x04\x00\x01\x02\x00\x00\x01\x06\x00\x0E\x07\x04\x00\x02\x04\x00\x03\x05\x00\x01\x04\x00\x01\x02\x00\x00\x00",
+            bare(0),
+            bare(0),
+        ))
+        .with(strict_row(
+            b"\x01\x00\x06\x11\x00\x00\x00\x00\x00",
+            bare(0),
+            failed(15, 17, 0, 0),
+        ))
+        .with(strict_row(
+            b"\x01\x00\x10\x03\x00\x01\x01\x00\x00\x01\x00\x00\x03\x04\x00\x01\x00\x00\x00",
+            failed(13, 0, 1, 1),
+            failed(15, 3, 0, 0),
+        ))
+        .with(strict_row(
+            b"\x01\x00\x37\x01\x0A\x0A\x04\x00\x01\x04\x00\x02\x04\x00\x03\x00\x02\x02\x02\x00\x00\x02\x06\x00\x0C\x0A\x0A\x04\x00\x01\x04\x00\x02\x04\x00\x03\x02\x00\x00\x00\x06\x00\x0C\x06\x0A\x04\x00\x01\x04\x00\x02\x05\x00\x03\x02\x00\x00\x00",
+            bare(0),
+            bare(0),
+        ))
+        .with(strict_row(
+            b"\x01\x00\x37\x01\x0A\x0A\x04\x00\x01\x04\x00\x02\x04\x00\x03\x00\x02\x02\x02\x00\x00\x02\x06\x00\x0C\x06\x0A\x04\x00\x01\x04\x00\x02\x05\x00\x03\x02\x00\x00\x00\x06\x00\x0C\x0A\x0A\x04\x00\x01\x04\x00\x02\x04\x00\x03\x02\x00\x00\x00",
+            bare(0),
+            failed(15, 1, 0, 0),
+        ))
+        .with(strict_row(
+            b"\x01\x00\x1B\x0E\x00\x03\x05\x00\x01\x00\x03\x04\x00\x01\x01\x00\x00\x06\x05\x00\x01\x04\x00\x01\x00\x03\x04\x00\x01\x00",
+            bare(0),
+            failed(15, 14, 0, 0),
+        ))
+        .with(strict_row(
+            b"\x01\x00\x18\x0E\x00\x03\x05\x00\x01\x00\x03\x04\x00\x01\x01\x00\x00\x06\x05\x00\x01\x04\x00\x01\x00\x00\x00",
+            bare(0),
+            bare(0),
+        ))
+}
+
 // Blur over so many Ones in each zone; the message ends with its premise count or before it.
 fn ones(linear: usize, unrestricted: usize, count: usize, answer: usize) -> bool {
     let mut s = [0u8; 80];

@@ -1,6 +1,7 @@
 -- The contract of `prove`, the way into the ring: what it asks of its caller (`Asked`), what it answers against the logic's `prove` (`Proves`), and what a caller has of that where a tree is
 -- found (`Carried`). Assumes nothing: these are definitions.
 use mathlib.Core.Path.{_≡_}
+use mathlib.Core.Bool.{true}
 use mathlib.Core.List.{List}
 use Prim.Native.Nat.{ℕ, suc, _≤_}
 use lib.ListN.{length, getD, drop}
@@ -22,6 +23,10 @@ use Rattle.search.specs.declared.counters.Counters.{Counters}
 use Rattle.search.specs.declared.Outcome.{Outcome}
 use Rattle.search.specs.Plans.{sequent}
 use Rattle.search.specs.Contract.{Stands, Says, counters-of, end-of}
+
+-- `Prover::new`: the whole budget, and the cache on
+abbrev pub fresh : ℕ → Prover
+fresh limit = record { limit = limit; budget = 16384; cache = true }
 
 -- the logic's `prove`, under a prover's settings
 abbrev pub proving : Prover → Sequent → Memory → logic.Outcome × State

@@ -3,7 +3,8 @@ pub mod counters; // counters.rt: `ProverStats`, by value
 pub mod plan; // plan.rt: which rule comes next, and on what
 pub mod ring; // ring.rt: visit, decomposition, focusing and the unrestricted rules, which call one another
 
-ghost use Rattle.search.specs.Asked.{Asked, Proves};
+ghost use mathlib.Core.Path.{_≡_};
+ghost use Rattle.search.specs.Asked.{fresh, Asked, Proves};
 use counters::Counters;
 use formula::Refusal;
 use zones::Zones;
@@ -34,7 +35,9 @@ impl Prover {
     pub const MAX_SEQUENT: usize = 31;
 
     // search.rs: `Prover::new`, with the whole budget and the cache on.
-    pub fn new(limit: usize) -> Self {
+    pub fn new(limit: usize) -> Self
+        ensures { λ r. ⌜ r ≡ fresh limit ⌝ }
+    {
         Self {
             limit,
             budget: Self::MAX_BUDGET,

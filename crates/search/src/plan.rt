@@ -7,6 +7,7 @@ ghost use Rattle.zones.specs.Zones.{Fits};
 ghost use Rattle.memory.specs.Meaning.{Wf, Stands-in, held-count};
 ghost use Rattle.expand.specs.Short as short;
 ghost use Rattle.search.specs.Plans.{PlannedAt, Planned, Focused, linear-formula, number-of, long, Premise};
+use super::Prover;
 use memory::shape::Shape;
 use memory::shape::shape_at;
 use zones::Zones;
@@ -133,7 +134,7 @@ pub fn too_long(rule: Exponential, z: Zones) -> bool
     ensures { λ r. ⌜ r ≡ long rule z ⌝ }
 {
     match rule {
-        Exponential::Contraction => z.count() == 31,
+        Exponential::Contraction => z.count() == Prover::MAX_SEQUENT,
         _ => false,
     }
 }

@@ -1,6 +1,7 @@
 //! The list of trees: found ones, damaged ones, and ones that no search makes.
 
 use super::fragment::{formula, mixed, SPREAD};
+use super::steps;
 use crate::answer::{MAX_SEQUENT, MAX_TREE_HEIGHT};
 use crate::formula::*;
 use crate::random::Random;
@@ -21,6 +22,7 @@ pub fn groups(seed: u64, found: &[Vec<u8>]) -> Vec<(String, Vec<Proof>)> {
         ("random".into(), drawn),
         ("deep, up to 65 levels".into(), deep(&mut random)),
         ("wide, up to 255 premises".into(), wide(&mut random)),
+        ("legal steps of every rule, and such trees changed".into(), steps::make(seed, 400, 2)),
     ];
     groups.iter_mut().for_each(|(_, trees): &mut (String, Vec<Proof>)| trees.retain(is_readable));
     groups

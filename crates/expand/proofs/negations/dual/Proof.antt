@@ -1,0 +1,18 @@
+use mathlib.Core.Path.{refl}
+use Rattle.held.specs.Signs.{dualOf}
+use borrow.Author.Needs.{needs}
+use Rattle.expand.proofs.negations.dual.Statement.{statement}
+use Rattle.expand.proofs.negations.dual.Tie as tie
+
+mul-result : tie.Need-mul-result
+mul-result c = search needs
+
+array-read-result : tie.Need-array-read-result
+array-read-result c = search needs
+
+returns : tie.Need-returns
+unfolding dualOf
+returns c = refl
+
+pub dual-spec : {M : Type 1} → statement M
+dual-spec = tie.close (tie.spec mul-result array-read-result returns)

@@ -1,0 +1,4 @@
+pub mod Says
+pub mod SaysLaws
+pub mod Judged
+pub mod JudgedLaws
