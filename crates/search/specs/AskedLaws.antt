@@ -1,6 +1,7 @@
 -- Laws of the way into the ring: what is held means the same later; what `prove` answers, case by case; a whole question by its sequent. Assumes nothing.
 use mathlib.Core.Path.{_≡_, refl, sym, ap, _∙_}
 use mathlib.Core.List.{List}
+use mathlib.Core.Option.{some}
 use Prim.Native.Nat.{ℕ, suc, _≤_}
 use native.Mathlib.Omega.{arith}
 use lib.ListN.{length, drop, take-append-drop}
@@ -17,8 +18,9 @@ use Rattle.zones.specs.declared.Zones.{Zones}
 use Rattle.zones.specs.ZonesLaws.{within-more, meant-agree}
 use Rattle.memory.specs.Meaning.{holds, told, Grew, Stands-in}
 use Rattle.expand.specs.Short.{spelled, expand, Expands}
+use Rattle.expand.specs.ShortLaws.{expands-higher}
 use Rattle.search.specs.Told.{Tells}
-use Rattle.search.specs.ToldLaws.{tells-expands, expand-more}
+use Rattle.search.specs.ToldLaws.{tells-expands}
 use Rattle.formula.specs.declared.Refusal.{Refusal}
 use Rattle.search.specs.declared.Prover.{Prover}
 use Rattle.search.specs.declared.counters.Counters.{Counters}
@@ -67,11 +69,9 @@ module _ (p : Prover) (z : Zones) (m : List ℕ) (memory : Memory) where
     proves-found {end} {c} asked h = go outcome (h .says memory k)
       where
         tree-expands : (t : Tree) → Tells (suc (p .limit)) (spelled (sequent m z)) (slice 0 end w') (holds m') t → Expands 65 (sequent m' z) w' t (drop end w')
-        tree-expands t x = rw (sequent-later (h .grew) (asked .zones)) record {
-          expands =
-              expand-more (suc (p .limit)) 65 (sequent m z) w' (t, drop end w') (omega (arith, asked .shallow))
-              (ap (expand (suc (p .limit)) (sequent m z)) (sym (take-append-drop end w')) ∙ tells-expands (sequent m z) x (drop end w') .expands);
-        }
+        tree-expands t x =
+            let e : expand (suc (p .limit)) (sequent m z) w' ≡ some (t, drop end w') = ap (expand (suc (p .limit)) (sequent m z)) (sym (take-append-drop end w')) ∙ tells-expands (sequent m z) x (drop end w') .expands in
+            rw (sequent-later (h .grew) (asked .zones)) (expands-higher 65 (omega (arith, asked .shallow)) record { expands = e })
 
         go : (o : logic.Outcome) → Saying m' w' o (Found end c) → Carried z m' w' end c o state
         go (logic.found t) x = record { tree = t; found = refl; stands = x .0; expands = tree-expands t (x .1); held = x .1 .held }
