@@ -8,11 +8,12 @@ use lib.Seq.{getD-take}
 use Rattle.logic.specs.Formula as formula
 use Rattle.logic.specs.Formula.{Formula, spell}
 use Rattle.held.specs.Signs.{signs, make}
-use Rattle.held.specs.SignsLaws.{tagOf, node-make}
+use Rattle.held.specs.SignsLaws.{tagOf}
 use Rattle.held.specs.Turn as turn
 use Rattle.held.specs.Words as formulas
 use Rattle.held.specs.WordsLaws.{held-node, held-length, row-low, tag-node}
 use Rattle.held.proofs.RowSteps.{row-left, row-right}
+use Rattle.held.proofs.TurnSteps.{RowOf, row-of}
 use Rattle.failures.specs.FailedLaws.{failed-grows}
 use Rattle.failures.specs.RecordsLaws.{failures-grow}
 use Rattle.memory.specs.Meaning.{formula-words, failure-words, holds, held-count, told, failed, Wf}
@@ -26,31 +27,14 @@ pub row-reads : (m : List ℕ) (x k : ℕ) → Wf m → x < held-count m → k <
 unfolding held-count
 row-reads m x k z l u = omega (arith, z .formulas .few)
 
--- formula x is what its tag t makes of the words a and b after it
-pub record RowOf (m : List ℕ) (x t a b : ℕ) : Type 0 where
-  pub here : told m x ≡ make t a (told m a) (told m b)
-  pub tag : t < 13
-  pub left : 6 ≤ t → a < held-count m
-  pub right : 6 ≤ t → t < 11 → b < held-count m
-
-pub row-of : (m : List ℕ) (x t a b : ℕ) → Wf m → x < held-count m → t ≡ formulas.at (formula-words m) x 0 → a ≡ formulas.at (formula-words m) x 1 → b ≡ formulas.at (formula-words m) x 2 → RowOf m x t a b
-unfolding told held-count
-row-of m x t a b z l p q r =
-    let f = formula-words m in
-    let row : formulas.Row f x t a b (formulas.at f x 3) (formulas.at f x 4) = rw (p, q, r) (z .formulas .formulas .rows x l) in
-    record {
-      here = rw (p, q, r) (held-node f (formulas.count f) (z .formulas .formulas) x l ∙ node-make _ _ _ _);
-      tag = row-low row;
-      left = λ k. let u = row-left row k in omega arith;
-      right = λ k h. let u = row-right row k h in omega arith;
-    }
-
+-- formula x by its words
 read-word : (m : List ℕ) (x k n : ℕ) → Wf m → x < held-count m → k < 5 → n ≡ 1 + 5 * x + k → getD m n 0 ≡ formulas.at (formula-words m) x k
 read-word m x k n z l u e = rw e (sym (getD-take 12289 m (1 + 5 * x + k) 0 (row-reads m x k z l u)))
 
-pub read-row : (m : List ℕ) (x : ℕ) → Wf m → x < held-count m → RowOf m x (getD m (1 + 5 * x) 0) (getD m (1 + 5 * x + 1) 0) (getD m (1 + 5 * x + 2) 0)
+pub read-row : (m : List ℕ) (x : ℕ) → Wf m → x < held-count m → RowOf (formula-words m) x (getD m (1 + 5 * x) 0) (getD m (1 + 5 * x + 1) 0) (getD m (1 + 5 * x + 2) 0)
+unfolding held-count
 read-row m x z l =
-    row-of m x _ _ _ z l (read-word m x 0 _ z l (omega arith) (omega arith)) (read-word m x 1 _ z l (omega arith) (omega arith)) (read-word m x 2 _ z l (omega arith) (omega arith))
+    row-of (formula-words m) x _ _ _ (z .formulas) l (read-word m x 0 _ z l (omega arith) (omega arith)) (read-word m x 1 _ z l (omega arith) (omega arith)) (read-word m x 2 _ z l (omega arith) (omega arith))
 
 -- a tag that is none of the first k
 abbrev NoneOf : ℕ → ℕ → Type 0
@@ -62,15 +46,24 @@ none-of zero t h = omega arith
 none-of (suc k) t h = omega (arith, none-of k t (h .0), h .1)
 
 -- the shape of each tag
-module _ {m : List ℕ} {x t a b : ℕ} (z : RowOf m x t a b) where
+module _ (m : List ℕ) {x t a b : ℕ} (z : RowOf (formula-words m) x t a b) where
   made : (k : ℕ) → t ≡ k → told m x ≡ make k a (told m a) (told m b)
+  unfolding told
   made k e = z .here ∙ ap (λ t. make t a (told m a) (told m b)) e
 
+  left-held : 6 ≤ t → a < held-count m
+  unfolding held-count
+  left-held k = omega (arith, row-left (z .row) k, z .low)
+
+  right-held : 6 ≤ t → t < 11 → b < held-count m
+  unfolding held-count
+  right-held k h = omega (arith, row-right (z .row) k h, z .low)
+
   of-two : (sign : Formula → Formula → Formula) (k : ℕ) → t ≡ k → 6 ≤ k → k < 11 → make k a (told m a) (told m b) ≡ sign (told m a) (told m b) → OfTwo m x sign a b
-  of-two sign k e u v same = record { here = made k e ∙ same; left = z .left (omega arith); right = z .right (omega arith) (omega arith) }
+  of-two sign k e u v same = record { here = made k e ∙ same; left = left-held (omega arith); right = right-held (omega arith) (omega arith) }
 
   of-one : (sign : Formula → Formula) (k : ℕ) → t ≡ k → 6 ≤ k → make k a (told m a) (told m b) ≡ sign (told m a) → OfOne m x sign a
-  of-one sign k e u same = record { here = made k e ∙ same; part = z .left (omega arith) }
+  of-one sign k e u same = record { here = made k e ∙ same; part = left-held (omega arith) }
 
   pub shape-one : t ≡ 0 → told m x ≡ formula.One
   unfolding make signs
@@ -122,7 +115,7 @@ module _ {m : List ℕ} {x t a b : ℕ} (z : RowOf m x t a b) where
 
   pub shape-why-not : 12 ≤ t → OfOne m x formula.WhyNot a
   unfolding make signs
-  shape-why-not l = of-one formula.WhyNot 12 (omega (arith, z .tag)) (omega arith) refl
+  shape-why-not l = of-one formula.WhyNot 12 (omega (arith, row-low (z .row))) (omega arith) refl
 
 -- an implication by its words
 pub implication-held : (m : List ℕ) (x : ℕ) → Implication m x → turn.Implication (formula-words m) x

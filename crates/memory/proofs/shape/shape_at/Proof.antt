@@ -37,43 +37,43 @@ shared-slice-read-b : tie.Need-shared-slice-read-b
 shared-slice-read-b c = omega (arith, row-reads _ _ 2 (c .before .before .before .pre .0) (c .before .before .before .pre .1) (omega arith), wf-length _ (c .before .before .before .pre .0))
 
 returns : tie.Need-returns
-returns c = shape-one (read-row _ _ (c .before .before .before .before .pre .0) (c .before .before .before .before .pre .1)) (c .match .keys1)
+returns c = shape-one (c .before .before .before .before .args .mem .now) (read-row _ _ (c .before .before .before .before .pre .0) (c .before .before .before .before .pre .1)) (c .match .keys1)
 
 returns-2 : tie.Need-returns-2
-returns-2 c = shape-bottom (read-row _ _ (c .before .before .before .before .pre .0) (c .before .before .before .before .pre .1)) (c .match .keys2)
+returns-2 c = shape-bottom (c .before .before .before .before .args .mem .now) (read-row _ _ (c .before .before .before .before .pre .0) (c .before .before .before .before .pre .1)) (c .match .keys2)
 
 returns-3 : tie.Need-returns-3
-returns-3 c = shape-top (read-row _ _ (c .before .before .before .before .pre .0) (c .before .before .before .before .pre .1)) (c .match .keys3)
+returns-3 c = shape-top (c .before .before .before .before .args .mem .now) (read-row _ _ (c .before .before .before .before .pre .0) (c .before .before .before .before .pre .1)) (c .match .keys3)
 
 returns-4 : tie.Need-returns-4
-returns-4 c = shape-zero (read-row _ _ (c .before .before .before .before .pre .0) (c .before .before .before .before .pre .1)) (c .match .keys4)
+returns-4 c = shape-zero (c .before .before .before .before .args .mem .now) (read-row _ _ (c .before .before .before .before .pre .0) (c .before .before .before .before .pre .1)) (c .match .keys4)
 
 returns-5 : tie.Need-returns-5
-returns-5 c = shape-atom (read-row _ _ (c .before .before .before .before .pre .0) (c .before .before .before .before .pre .1)) (c .match .keys5)
+returns-5 c = shape-atom (c .before .before .before .before .args .mem .now) (read-row _ _ (c .before .before .before .before .pre .0) (c .before .before .before .before .pre .1)) (c .match .keys5)
 
 returns-6 : tie.Need-returns-6
-returns-6 c = shape-neg-atom (read-row _ _ (c .before .before .before .before .pre .0) (c .before .before .before .before .pre .1)) (c .match .keys6)
+returns-6 c = shape-neg-atom (c .before .before .before .before .args .mem .now) (read-row _ _ (c .before .before .before .before .pre .0) (c .before .before .before .before .pre .1)) (c .match .keys6)
 
 returns-7 : tie.Need-returns-7
-returns-7 c = shape-tensor (read-row _ _ (c .before .before .before .before .pre .0) (c .before .before .before .before .pre .1)) (c .match .keys7)
+returns-7 c = shape-tensor (c .before .before .before .before .args .mem .now) (read-row _ _ (c .before .before .before .before .pre .0) (c .before .before .before .before .pre .1)) (c .match .keys7)
 
 returns-8 : tie.Need-returns-8
-returns-8 c = shape-par (read-row _ _ (c .before .before .before .before .pre .0) (c .before .before .before .before .pre .1)) (c .match .keys8)
+returns-8 c = shape-par (c .before .before .before .before .args .mem .now) (read-row _ _ (c .before .before .before .before .pre .0) (c .before .before .before .before .pre .1)) (c .match .keys8)
 
 returns-9 : tie.Need-returns-9
-returns-9 c = shape-with (read-row _ _ (c .before .before .before .before .pre .0) (c .before .before .before .before .pre .1)) (c .match .keys9)
+returns-9 c = shape-with (c .before .before .before .before .args .mem .now) (read-row _ _ (c .before .before .before .before .pre .0) (c .before .before .before .before .pre .1)) (c .match .keys9)
 
 returns-10 : tie.Need-returns-10
-returns-10 c = shape-plus (read-row _ _ (c .before .before .before .before .pre .0) (c .before .before .before .before .pre .1)) (c .match .keys10)
+returns-10 c = shape-plus (c .before .before .before .before .args .mem .now) (read-row _ _ (c .before .before .before .before .pre .0) (c .before .before .before .before .pre .1)) (c .match .keys10)
 
 returns-11 : tie.Need-returns-11
-returns-11 c = shape-lolli (read-row _ _ (c .before .before .before .before .pre .0) (c .before .before .before .before .pre .1)) (c .match .keys11)
+returns-11 c = shape-lolli (c .before .before .before .before .args .mem .now) (read-row _ _ (c .before .before .before .before .pre .0) (c .before .before .before .before .pre .1)) (c .match .keys11)
 
 returns-12 : tie.Need-returns-12
-returns-12 c = shape-of-course (read-row _ _ (c .before .before .before .before .pre .0) (c .before .before .before .before .pre .1)) (c .match .keys12)
+returns-12 c = shape-of-course (c .before .before .before .before .args .mem .now) (read-row _ _ (c .before .before .before .before .pre .0) (c .before .before .before .before .pre .1)) (c .match .keys12)
 
 returns-13 : tie.Need-returns-13
-returns-13 c = shape-why-not (read-row _ _ (c .before .before .before .before .pre .0) (c .before .before .before .before .pre .1)) (none-of 12 _ (c .match .rest))
+returns-13 c = shape-why-not (c .before .before .before .before .args .mem .now) (read-row _ _ (c .before .before .before .before .pre .0) (c .before .before .before .before .pre .1)) (none-of 12 _ (c .match .rest))
 
 pub shape-at-spec : {M : Type 1} → statement M
 shape-at-spec =
