@@ -19,7 +19,7 @@ use Rattle.held.specs.declared.Found.{Found}
 use Rattle.held.specs.declared.Found.the-variants as found
 use Rattle.held.proofs.Found.{the-type as found-type}
 use denote.Enum.Declared.{tagOf as variant}
-use Rattle.expand.specs.Negations.{Noted, Table}
+use Rattle.expand.specs.Negations.{Noted, Table, Above, Negated}
 use Rattle.expand.proofs.ByteSteps.{told-make, tag-low, part-left, part-right}
 
 -- what a look-up answers
@@ -312,5 +312,26 @@ table-next {m} {table} {x} {r} t l n = record {
     new : Noted m (negate (told m x)) (getD (set table x r) x 0)
     new = rw (getD-set-same table x r 0 (omega (arith, t .wf .few, t .sized))) n
 
-pub table-end : {m table : List ℕ} {x : ℕ} → x ≤ count m → count m ≤ x → Table m table x → Table m table (count m)
-table-end {m} {table} {x} h l t = let e : x ≡ count m = omega arith in rw e at t
+-- how far the table is asked for
+pub above-start : (m : List ℕ) → Above m 0 0
+above-start m = record { low = omega arith; above = λ x l e. absurd (omega arith) }
+
+module _ {m : List ℕ} {x top : ℕ} (k : Above m x top) where
+  pub above-other : {t : ℕ} → Field m x 0 t → (t ≡ 10 → ⊥) → Above m (x + 1) top
+  above-other f n = record { low = k .low; above = below-more (λ y. at m y 0 ≡ 10 → at m y 1 < top) x (k .above) (λ e. absurd (n (f .value ∙ e))) }
+
+  module _ {a : ℕ} (f : Field m x 1 a) where
+    pub above-within : a < top → Above m (x + 1) top
+    above-within h = record { low = k .low; above = below-more (λ y. at m y 0 ≡ 10 → at m y 1 < top) x (k .above) (λ e. omega (arith, f .value)) }
+
+    pub above-raised : {t : ℕ} → Wf m → x < count m → Field m x 0 t → t ≡ 10 → top ≤ a → Above m (x + 1) (a + 1)
+    above-raised wf l g e h = record {
+      low = omega (arith, f .value, part-left m x wf l (omega (arith, g .value)));
+      above = below-more (λ y. at m y 0 ≡ 10 → at m y 1 < a + 1) x (λ y b d. omega (arith, k .above y b d)) (λ d. omega (arith, f .value));
+    }
+
+pub above-end : {m : List ℕ} {x r : ℕ} → x ≤ count m → count m ≤ x → Above m x r → Above m (count m) r
+above-end {m} {x} {r} h l k = let e : x ≡ count m = omega arith in rw e at k
+
+pub table-negated : {m table : List ℕ} {x r : ℕ} → Above m (count m) r → x ≤ r → r ≤ x → Table m table x → Negated m table
+table-negated {m} {table} k h l t = record { wf = t .wf; sized = t .sized; left = λ y b e. t .filled (at m y 1) (omega (arith, k .above y b e)) }

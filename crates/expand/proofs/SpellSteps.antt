@@ -144,7 +144,7 @@ module _ {m table : List ℕ} {x : ℕ} (p : Spellable m table x) where
         here = s .here;
         next = record { wf = wf; tall = at m y 3; wide = at m y 4; row = rw (tag, right) at (row-later (count m) (omega arith) (wf .formulas .rows y l)) };
         node-is = node-make 7 (at m y 1) (at m x 2) (view m) ∙ sym (rw (tag, right) at (told-make m y wf l));
-        entry = p .table-is .filled (at m x 1) (omega (arith, left-low, p .low)) .complete (at m y 1) (parts .0 .0) (parts .0 .1);
+        entry = p .table-is .left x (p .low) (p .lolli) .complete (at m y 1) (parts .0 .0) (parts .0 .1);
       }
 
 -- `spelled_number`, with the two fields read

@@ -18,7 +18,7 @@ use Rattle.zones.specs.Zones.{meant}
 use Rattle.expand.specs.Short.{rule-of, _by_, step, spelled, _and-then_, expand-all, expand}
 use Rattle.expand.specs.ShortLaws.{spell-length, some-both, then-apart, grown-apart}
 use Rattle.expand.specs.InMemory.{Kept, InMemory, InMemory*}
-use Rattle.expand.specs.Negations.{Table}
+use Rattle.expand.specs.Negations.{Negated}
 use Rattle.expand.specs.Writing.{Wrote, Items, Zone-room, Weighs, Sound, Means, SpellsOut, premise-counts, first-of, second-of, Stepping, Stepping₂}
 use Rattle.expand.specs.Trees.{most-bytes, most-levels, head, Head-length, Head-room, Carries, Of-tree, Counted, Writing, Written, Long, Message-room, Message, Answered}
 use Rattle.expand.specs.declared.tree.Place.{Place}
@@ -377,7 +377,7 @@ module _ {m ws : List ℕ} {z : Zones} {left at : ℕ} (k : Carries m ws z left 
   pub word-rule : rule-of (getD ws at 0) < 15
   word-rule = word-known carried
 
-  pub carries-spells : {table : List ℕ} → Table m table (count m) → SpellsOut m table z
+  pub carries-spells : {table : List ℕ} → Negated m table → SpellsOut m table z
   carries-spells t = record { table-is = t; sound = k .sound; kept = node-kept carried (k .held) }
 
   module _ {s : Zones} (x : Means m (spelled (meant (told m) z)) s) {c : ℕ} (e : c ≡ getD premise-counts (rule-of (getD ws at 0)) 0) where
@@ -647,7 +647,7 @@ module _ {m ws : List ℕ} {z : Zones} {out : List ℕ} {n : ℕ} (x : Of-tree m
     of-tree = λ t rest e. record { same = refl; long = λ l room. let o = x .of-tree t rest e .exact h in omega (arith, message-length t) };
   }
 
-  module _ {table : List ℕ} (k : Carries m ws z most-levels 0) (t : Table m table (count m)) (h : n ≤ most-bytes) (room : n + 3 ≤ length out) where
+  module _ {table : List ℕ} (k : Carries m ws z most-levels 0) (t : Negated m table) (h : n ≤ most-bytes) (room : n + 3 ≤ length out) where
     pub message-room : Message-room m table ws z out n
     message-room = record { table-is = t; carries = k; sized = x .of-tree (k .tree) (k .rest) (k .expands) .exact h; short = h; room = room }
 

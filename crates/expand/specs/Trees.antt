@@ -7,13 +7,12 @@ use lib.ListN.{getD, length, drop}
 use Rattle.logic.specs.Sequent.{Sequent}
 use Rattle.logic.specs.Tree.{Tree}
 use Rattle.wire.specs.Write.{write-zone, write-node, write-tree}
-use Rattle.held.specs.Words as words
 use Rattle.held.specs.Words.{view, told}
 use Rattle.zones.specs.declared.Zones.{Zones}
 use Rattle.zones.specs.Zones.{meant}
 use Rattle.expand.specs.Short.{rule-of, expand}
 use Rattle.expand.specs.InMemory.{InMemory}
-use Rattle.expand.specs.Negations.{Table}
+use Rattle.expand.specs.Negations.{Negated}
 use Rattle.expand.specs.Writing.{Wrote, Sound, premise-counts}
 use Rattle.expand.specs.declared.tree.Place.{Place}
 use Rattle.expand.specs.declared.tree.Output.{Output}
@@ -54,7 +53,7 @@ pub record Of-tree (m ws : List ℕ) (z : Zones) (levels at : ℕ) (P : Tree →
 
 -- a node counted on from `sum`: exactly, or both are over what a body may have
 pub record Counting (m table ws : List ℕ) (z : Zones) (levels at sum : ℕ) : Type 0 where
-  pub table-is : Table m table (words.count m)
+  pub table-is : Negated m table
   pub carries : Carries m ws z levels at
   pub low : sum ≤ most-bytes
 
@@ -64,7 +63,7 @@ pub record Counted (ws : List ℕ) (sum : ℕ) (r : Place) (t : Tree) (rest : Li
 
 -- a node written from place `to` on
 pub record Writing (m table ws : List ℕ) (z : Zones) (levels at : ℕ) (out : List ℕ) (to : ℕ) : Type 0 where
-  pub table-is : Table m table (words.count m)
+  pub table-is : Negated m table
   pub carries : Carries m ws z levels at
   pub room : to + length (write-node (carries .tree)) ≤ length out
   pub short : length (write-node (carries .tree)) ≤ most-bytes
@@ -80,7 +79,7 @@ pub record Long (r : ℕ) (t : Tree) (rest : List ℕ) : Type 0 where
 
 -- a message of n bytes after its first three
 pub record Message-room (m table ws : List ℕ) (z : Zones) (out : List ℕ) (n : ℕ) : Type 0 where
-  pub table-is : Table m table (words.count m)
+  pub table-is : Negated m table
   pub carries : Carries m ws z most-levels 0
   pub sized : n ≡ length (write-node (carries .tree))
   pub short : n ≤ most-bytes

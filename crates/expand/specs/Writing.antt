@@ -17,7 +17,7 @@ use Rattle.zones.specs.declared.Zones.{Zones}
 use Rattle.zones.specs.Zones.{Fits, Within, Below, meant}
 use Rattle.expand.specs.Short.{Step, _by_, step, spelled}
 use Rattle.expand.specs.InMemory.{Kept}
-use Rattle.expand.specs.Negations.{Table}
+use Rattle.expand.specs.Negations.{Negated}
 
 -- the bytes stand in the output from place `to` on, and nothing else has changed
 pub record Wrote (out : List ℕ) (to : ℕ) (bs out′ : List ℕ) (next : ℕ) : Type 0 where
@@ -78,7 +78,7 @@ pub record FirstAt (m : List ℕ) (z : Zones) (r : ℕ) : Type 0 where
 
 -- formula x is an implication, and it is held spelled out
 pub record Spellable (m table : List ℕ) (x : ℕ) : Type 0 where
-  pub table-is : Table m table (words.count m)
+  pub table-is : Negated m table
   pub low : x < words.count m
   pub lolli : words.at m x 0 ≡ 10
   pub held : among (spell (told m x)) (view m) ≡ true
@@ -89,7 +89,7 @@ pub record SpelledAs (m : List ℕ) (x r : ℕ) : Type 0 where
 
 -- what `spelled` asks
 pub record SpellsOut (m table : List ℕ) (z : Zones) : Type 0 where
-  pub table-is : Table m table (words.count m)
+  pub table-is : Negated m table
   pub sound : Sound m z
   pub kept : Kept (view m) (spelled (meant (told m) z))
 

@@ -1,12 +1,12 @@
 // Which held formula is the negation of which, for all of a memory at once: an implication is spelled out by looking its left part up here.
 ghost use mathlib.Core.Path.{_≡_};
-ghost use Prim.Native.Nat.{_<_};
+ghost use Prim.Native.Nat.{_+_, _<_};
 ghost use lib.ListN.{length};
 ghost use Rattle.logic.specs.Formula.{negate};
 ghost use Rattle.held.specs.Signs.{node, dualOf};
 ghost use Rattle.held.specs.Words.{count, most, view, told, Wf};
 ghost use Rattle.held.specs.Answers.{Next};
-ghost use Rattle.expand.specs.Negations.{Noted, Table};
+ghost use Rattle.expand.specs.Negations.{Noted, Table, Above, Negated};
 use held::Found;
 use held::entry::find;
 use held::words::field;
@@ -63,12 +63,42 @@ fn negation(mem: &[u16], table: &[u16], x: usize) -> usize
     number_of(mem, dual(tag), left - 1, right - 1)
 }
 
-// Fills the table.
-pub fn negations(mem: &[u16], table: &mut [u16])
-    requires { ⌜ Wf (now mem) × (length (now table) ≡ most) ⌝ }
-    ensures { λ _. ⌜ Table (now (mem .entry)) (now (table .exit)) (count (now (mem .entry))) ⌝ }
+// `top`, made to lie above the left part of formula x where that is an implication.
+fn above(mem: &[u16], x: usize, top: usize) -> usize
+    requires { ⌜ (Wf (now mem) × (x < count (now mem))) × Above (now mem) x top ⌝ }
+    ensures { λ r. ⌜ Above (now (mem .entry)) (x + 1) r ⌝ }
+{
+    if field(mem, x, 0) != 10 {
+        return top;
+    }
+    let a = field(mem, x, 1);
+    if a < top {
+        return top;
+    }
+    a + 1
+}
+
+// Above the left part of each held implication: no more of the table is asked for.
+fn top(mem: &[u16]) -> usize
+    requires { ⌜ Wf (now mem) ⌝ }
+    ensures { λ r. ⌜ Above (now (mem .entry)) (count (now (mem .entry))) r ⌝ }
 {
     let n = mem[0] as usize;
+    let mut r = 0;
+    let mut x = 0;
+    while x < n {
+        r = above(mem, x, r);
+        x += 1;
+    }
+    r
+}
+
+// Fills the table, as far as implications ask for it.
+pub fn negations(mem: &[u16], table: &mut [u16])
+    requires { ⌜ Wf (now mem) × (length (now table) ≡ most) ⌝ }
+    ensures { λ _. ⌜ Negated (now (mem .entry)) (now (table .exit)) ⌝ }
+{
+    let n = top(mem);
     let mut x = 0;
     while x < n {
         let r = negation(mem, table, x);

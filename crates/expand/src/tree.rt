@@ -1,7 +1,7 @@
 // A tree's length and its bytes (document 01, "Bytes"), from its node words. The words stand in preorder, and a node's premises are worked out from its own sequent.
-ghost use Rattle.held.specs.Words.{count, told};
+ghost use Rattle.held.specs.Words.{told};
 ghost use Rattle.zones.specs.Zones.{meant};
-ghost use Rattle.expand.specs.Negations.{Table};
+ghost use Rattle.expand.specs.Negations.{Negated};
 ghost use Rattle.expand.specs.Writing.{Sound, Wrote};
 ghost use Rattle.expand.specs.Trees.{most-levels, head, Head-length, Head-room, Carries, Of-tree, Counting, Counted, Writing, Written, Long, Message-room, Message, Answered};
 use super::bytes::items_length;
@@ -68,45 +68,30 @@ fn node_length(
     ensures { λ r. ⌜ Of-tree (now (mem .entry)) (now (words .entry)) z left at (Counted (now (words .entry)) sum r) ⌝ }
 {
     let w = words[at];
+    let after = at + 1;
     let s = spelled(mem, negations, z);
     let next = sum + head_length(mem, s);
+    let here = Place {
+        at: after,
+        to: next,
+    };
     let n = premises(w);
     if n == 0 {
-        return Place {
-            at: at + 1,
-            to: next,
-        };
+        return here;
     }
     if BODY < next {
-        return Place {
-            at: at + 1,
-            to: next,
-        };
+        return here;
     }
-    let first = node_length(
-        mem,
-        negations,
-        words,
-        first_premise(mem, s, w),
-        left - 1,
-        at + 1,
-        next,
-    );
+    let p = first_premise(mem, s, w);
+    let first = node_length(mem, negations, words, p, left - 1, after, next);
     if n == 1 {
         return first;
     }
     if BODY < first.to {
         return first;
     }
-    node_length(
-        mem,
-        negations,
-        words,
-        second_premise(mem, s, w),
-        left - 1,
-        first.at,
-        first.to,
-    )
+    let q = second_premise(mem, s, w);
+    node_length(mem, negations, words, q, left - 1, first.at, first.to)
 }
 
 // Writes it.
@@ -124,43 +109,28 @@ fn node_bytes(
     ensures { λ r. ⌜ Of-tree (now (mem .entry)) (now (words .entry)) z left at (Written (now (words .entry)) (now (out .entry)) to (now (out .exit)) r) ⌝ }
 {
     let w = words[at];
+    let after = at + 1;
     let s = spelled(mem, negations, z);
     let next = head_bytes(mem, s, w, out, to);
     let n = premises(w);
     if n == 0 {
         return Place {
-            at: at + 1,
+            at: after,
             to: next,
         };
     }
-    let first = node_bytes(
-        mem,
-        negations,
-        words,
-        first_premise(mem, s, w),
-        left - 1,
-        at + 1,
-        out,
-        next,
-    );
+    let p = first_premise(mem, s, w);
+    let first = node_bytes(mem, negations, words, p, left - 1, after, out, next);
     if n == 1 {
         return first;
     }
-    node_bytes(
-        mem,
-        negations,
-        words,
-        second_premise(mem, s, w),
-        left - 1,
-        first.at,
-        out,
-        first.to,
-    )
+    let q = second_premise(mem, s, w);
+    node_bytes(mem, negations, words, q, left - 1, first.at, out, first.to)
 }
 
 // How many bytes the tree's body takes, or more than BODY.
 pub fn tree_length(mem: &[u16], negations: &[u16], words: &[u64], z: Zones) -> usize
-    requires { ⌜ Table (now mem) (now negations) (count (now mem)) × Carries (now mem) (now words) z most-levels 0 ⌝ }
+    requires { ⌜ Negated (now mem) (now negations) × Carries (now mem) (now words) z most-levels 0 ⌝ }
     ensures { λ r. ⌜ Of-tree (now (mem .entry)) (now (words .entry)) z most-levels 0 (Long r) ⌝ }
 {
     let end = node_length(mem, negations, words, z, LEVELS, 0, 0);

@@ -36,6 +36,9 @@ module _ (t : ℕ) where
   node-bytes-shared-slice-read-w : node-bytes-lts.Need-shared-slice-read-w (node-bytes-calls t) (node-bytes-at t) node-bytes.Post
   node-bytes-shared-slice-read-w c = word-in (c .before .before .before .before .before .pre .1 .carries)
 
+  node-bytes-add-after : node-bytes-lts.Need-add-after (node-bytes-calls t) (node-bytes-at t) node-bytes.Post
+  node-bytes-add-after c = omega (arith, word-in (c .before .before .before .before .before .pre .1 .carries))
+
   node-bytes-spelled-requires : node-bytes-lts.Need-spelled-requires (node-bytes-calls t) (node-bytes-at t) node-bytes.Post
   node-bytes-spelled-requires c κs = carries-spells (c .before .before .before .before .before .pre .1 .carries) (c .before .before .before .before .before .pre .1 .table-is)
 
@@ -44,9 +47,6 @@ module _ (t : ℕ) where
 
   node-bytes-premises-requires : node-bytes-lts.Need-premises-requires (node-bytes-calls t) (node-bytes-at t) node-bytes.Post
   node-bytes-premises-requires c κs = word-rule (c .before .before .before .before .before .before .before .before .before .before .pre .1 .carries)
-
-  node-bytes-add-t20 : node-bytes-lts.Need-add-t20 (node-bytes-calls t) (node-bytes-at t) node-bytes.Post
-  node-bytes-add-t20 c = omega (arith, word-in (c .before .before .before .before .before .before .before .before .before .before .before .before .pre .1 .carries))
 
   node-bytes-same-length : node-bytes-lts.Need-same-length (node-bytes-calls t) (node-bytes-at t) node-bytes.Post
   node-bytes-same-length c = wrote-length (c .before .before .before .before .head-bytes .ensures)
@@ -59,9 +59,6 @@ module _ (t : ℕ) where
 
   node-bytes-sub-node-bytes : node-bytes-lts.Need-sub-node-bytes (node-bytes-calls t) (node-bytes-at t) node-bytes.Post
   node-bytes-sub-node-bytes c = level-left (c .before .before .before .before .before .before .before .before .before .before .before .before .before .pre .1 .carries)
-
-  node-bytes-add-node-bytes : node-bytes-lts.Need-add-node-bytes (node-bytes-calls t) (node-bytes-at t) node-bytes.Post
-  node-bytes-add-node-bytes c = omega (arith, word-in (c .before .before .before .before .before .before .before .before .before .before .before .before .before .pre .1 .carries), c .before .before .before .before .before .before .before .before .before .before .before .before .before .good)
 
   node-bytes-node-bytes-requires : node-bytes-lts.Need-node-bytes-requires (node-bytes-calls t) (node-bytes-at t) node-bytes.Post
   node-bytes-node-bytes-requires c κs = (omega (arith, c .before .before .before .before .before .before .before .before .before .before .before .before .before .before .pre .0, level-left (c .before .before .before .before .before .before .before .before .before .before .before .before .before .before .pre .1 .carries)), first-writing (c .before .before .before .before .before .before .before .before .before .before .before .before .before .before .pre .1) (c .before .before .before .before .before .before .before .before .spelled .ensures) (c .before .before .before .premises .ensures) (c .before .before .before .before .before .before .head-bytes .ensures) (c .before .before .if1 .left) (c .before .first-premise .ensures))
@@ -90,4 +87,4 @@ module _ (t : ℕ) where
 pub +node-bytes-spec : {M : Type 1} → statement M
 +node-bytes-spec =
     close μ-node-bytes
-    λ t. node-bytes-lts.spec (node-bytes-calls t) (node-bytes-at t) node-bytes.Post (node-bytes-mul-w t) (node-bytes-shared-slice-read-w t) (node-bytes-spelled-requires t) (node-bytes-head-bytes-requires t) (node-bytes-premises-requires t) (node-bytes-add-t20 t) (node-bytes-same-length t) (node-bytes-returns t) (node-bytes-first-premise-requires t) (node-bytes-sub-node-bytes t) (node-bytes-add-node-bytes t) (node-bytes-node-bytes-requires t) (node-bytes-same-length-2 t) (node-bytes-returns-2 t) (node-bytes-second-premise-requires t) (node-bytes-sub-node-bytes-2 t) (node-bytes-node-bytes-requires-2 t) (node-bytes-same-length-3 t) (node-bytes-returns-3 t)
+    λ t. node-bytes-lts.spec (node-bytes-calls t) (node-bytes-at t) node-bytes.Post (node-bytes-mul-w t) (node-bytes-shared-slice-read-w t) (node-bytes-add-after t) (node-bytes-spelled-requires t) (node-bytes-head-bytes-requires t) (node-bytes-premises-requires t) (node-bytes-same-length t) (node-bytes-returns t) (node-bytes-first-premise-requires t) (node-bytes-sub-node-bytes t) (node-bytes-node-bytes-requires t) (node-bytes-same-length-2 t) (node-bytes-returns-2 t) (node-bytes-second-premise-requires t) (node-bytes-sub-node-bytes-2 t) (node-bytes-node-bytes-requires-2 t) (node-bytes-same-length-3 t) (node-bytes-returns-3 t)

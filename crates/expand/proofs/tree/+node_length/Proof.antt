@@ -35,6 +35,9 @@ module _ (t : ℕ) where
   node-length-shared-slice-read-w : node-length-lts.Need-shared-slice-read-w (node-length-calls t) (node-length-at t) node-length.Post
   node-length-shared-slice-read-w c = word-in (c .before .before .before .before .pre .1 .carries)
 
+  node-length-add-after : node-length-lts.Need-add-after (node-length-calls t) (node-length-at t) node-length.Post
+  node-length-add-after c = omega (arith, word-in (c .before .before .before .before .pre .1 .carries))
+
   node-length-spelled-requires : node-length-lts.Need-spelled-requires (node-length-calls t) (node-length-at t) node-length.Post
   node-length-spelled-requires c κs = carries-spells (c .before .before .before .before .pre .1 .carries) (c .before .before .before .before .pre .1 .table-is)
 
@@ -47,14 +50,8 @@ module _ (t : ℕ) where
   node-length-premises-requires : node-length-lts.Need-premises-requires (node-length-calls t) (node-length-at t) node-length.Post
   node-length-premises-requires c κs = word-rule (c .before .before .before .before .before .before .pre .1 .carries)
 
-  node-length-add-t17 : node-length-lts.Need-add-t17 (node-length-calls t) (node-length-at t) node-length.Post
-  node-length-add-t17 c = omega (arith, word-in (c .before .before .before .before .before .before .before .before .pre .1 .carries))
-
   node-length-returns : node-length-lts.Need-returns (node-length-calls t) (node-length-at t) node-length.Post
   node-length-returns c = counted-leaf _ (c .before .before .before .spelled .ensures) (c .before .premises .ensures) (c .before .before .head-length .ensures) (c .if1 .taken) refl refl
-
-  node-length-add-t18 : node-length-lts.Need-add-t18 (node-length-calls t) (node-length-at t) node-length.Post
-  node-length-add-t18 c = omega (arith, word-in (c .before .before .before .before .before .before .before .before .before .pre .1 .carries))
 
   node-length-returns-2 : node-length-lts.Need-returns-2 (node-length-calls t) (node-length-at t) node-length.Post
   node-length-returns-2 c = counted-over _ (c .before .before .before .before .spelled .ensures) (c .before .before .premises .ensures) (c .before .before .before .head-length .ensures) (c .if2 .taken) refl
@@ -64,9 +61,6 @@ module _ (t : ℕ) where
 
   node-length-sub-node-length : node-length-lts.Need-sub-node-length (node-length-calls t) (node-length-at t) node-length.Post
   node-length-sub-node-length c = level-left (c .before .before .before .before .before .before .before .before .before .before .pre .1 .carries)
-
-  node-length-add-node-length : node-length-lts.Need-add-node-length (node-length-calls t) (node-length-at t) node-length.Post
-  node-length-add-node-length c = omega (arith, word-in (c .before .before .before .before .before .before .before .before .before .before .pre .1 .carries))
 
   node-length-node-length-requires : node-length-lts.Need-node-length-requires (node-length-calls t) (node-length-at t) node-length.Post
   node-length-node-length-requires c κs = (omega (arith, c .before .before .before .before .before .before .before .before .before .before .pre .0, level-left (c .before .before .before .before .before .before .before .before .before .before .pre .1 .carries)), record { table-is = c .before .before .before .before .before .before .before .before .before .before .pre .1 .table-is; carries = first-carries (c .before .before .before .before .before .before .before .before .before .before .pre .1 .carries) (c .before .before .before .before .before .spelled .ensures) (c .before .before .before .premises .ensures) (c .first-premise .ensures) (c .before .before .if1 .left); low = c .before .if2 .left })
@@ -92,4 +86,4 @@ module _ (t : ℕ) where
 pub +node-length-spec : {M : Type 1} → statement M
 +node-length-spec =
     close μ-node-length
-    λ t. node-length-lts.spec (node-length-calls t) (node-length-at t) node-length.Post (node-length-mul-w t) (node-length-shared-slice-read-w t) (node-length-spelled-requires t) (node-length-head-length-requires t) (node-length-add-next t) (node-length-premises-requires t) (node-length-add-t17 t) (node-length-returns t) (node-length-add-t18 t) (node-length-returns-2 t) (node-length-first-premise-requires t) (node-length-sub-node-length t) (node-length-add-node-length t) (node-length-node-length-requires t) (node-length-returns-3 t) (node-length-returns-4 t) (node-length-second-premise-requires t) (node-length-sub-node-length-2 t) (node-length-node-length-requires-2 t) (node-length-returns-5 t)
+    λ t. node-length-lts.spec (node-length-calls t) (node-length-at t) node-length.Post (node-length-mul-w t) (node-length-shared-slice-read-w t) (node-length-add-after t) (node-length-spelled-requires t) (node-length-head-length-requires t) (node-length-add-next t) (node-length-premises-requires t) (node-length-returns t) (node-length-returns-2 t) (node-length-first-premise-requires t) (node-length-sub-node-length t) (node-length-node-length-requires t) (node-length-returns-3 t) (node-length-returns-4 t) (node-length-second-premise-requires t) (node-length-sub-node-length-2 t) (node-length-node-length-requires-2 t) (node-length-returns-5 t)
