@@ -8,7 +8,6 @@ ghost use lib.ListN.{length, drop};
 ghost use lib.Seq.{slice, sets};
 ghost use Rattle.wire.specs.Write.{two-bytes};
 ghost use Rattle.wire.specs.Read.{read-all, read-question};
-ghost use Rattle.tree.specs.Answers.{counted};
 ghost use Rattle.question.specs.Answers.{answered, left-in, OneSided};
 ghost use Rattle.question.specs.Stages.{make-of, formulas-of, KindRead, ZoneEnd, EndsRead};
 ghost use Rattle.question.specs.Negating.{negated, Negatable};
@@ -18,6 +17,7 @@ use formula::Read;
 use formula::Refusal;
 use formula::Written;
 use tree::Formulas;
+use tree::read_formulas;
 use tree::two_at;
 
 pub const VERSION: u8 = 1;
@@ -113,27 +113,6 @@ fn read_ends(s: &[u8]) -> Read
         return Read::Refused(Refusal::WrongLength);
     }
     first
-}
-
-// The formulas from `at` to `end`.
-fn read_formulas(s: &[u8], at: usize, end: usize) -> Formulas
-    requires { ⌜ (at ≤ end) × (end ≤ length (now s)) ⌝ }
-    ensures { λ r. ⌜ r ≡ counted 0 (read-all (slice at end (now (s .entry)))) ⌝ }
-{
-    let mut count = 0;
-    let mut p = at;
-    while p < end {
-        match formula::read_formula(s, p, end, HIGHEST) {
-            Read::Refused(why) => {
-                return Formulas::Refused(why);
-            }
-            Read::Next(next) => {
-                p = next;
-                count += 1;
-            }
-        }
-    }
-    Formulas::Count(count)
 }
 
 // The formulas of both zones in byte order, then 6.

@@ -74,7 +74,7 @@ fn larger(a: usize, b: usize) -> usize
 }
 
 // The formulas from `at` to `end`.
-fn read_formulas(s: &[u8], at: usize, end: usize) -> Formulas
+pub fn read_formulas(s: &[u8], at: usize, end: usize) -> Formulas
     requires { ⌜ (at ≤ end) × (end ≤ length (now s)) ⌝ }
     ensures { λ r. ⌜ r ≡ counted 0 (read-all (slice at end (now (s .entry)))) ⌝ }
 {
