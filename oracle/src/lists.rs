@@ -4,6 +4,7 @@ use crate::cursor::Read;
 use std::path::Path;
 
 pub const FORMULAS: &str = "crates/replay_formulas/stdin";
+pub const QUESTIONS: &str = "crates/replay_questions/stdin";
 pub const TREES: &str = "crates/replay_trees/stdin";
 pub const SESSIONS: &str = "oracle/answers/sessions.bin";
 

@@ -1,10 +1,11 @@
-//! The three stored lists. Each is a sequence of records, big-endian, with no header. docs/ORACLE.md gives the formats.
+//! The stored lists. Each is a sequence of records, big-endian, with no header. docs/ORACLE.md gives the formats.
 
 use crate::cursor::{put_counted, put_long, Cursor, Read};
+use crate::question::Question;
 use crate::strict::strict_verdict;
 use crate::verdict::{verdict, Verdict};
 use crate::{formula, tree};
-use lolli_core::{Formula, Proof};
+use lolli_core::{Formula, Proof, TwoSidedSequent};
 
 /// formulas: a formula and what formula.rs makes of it.
 #[derive(Clone, Debug, PartialEq, Eq)]
@@ -47,6 +48,35 @@ impl FormulaRecord {
             pretty: cursor.counted()?.to_vec(),
             pretty_ascii: cursor.counted()?.to_vec(),
         })
+    }
+}
+
+/// questions: a two-sided question and what sequent.rs's `to_one_sided` makes of it.
+#[derive(Clone, Debug, PartialEq, Eq)]
+pub struct QuestionRecord {
+    pub question: Vec<u8>,
+    pub one_sided: Vec<u8>,
+}
+
+impl QuestionRecord {
+    /// Nothing for a one-sided question.
+    pub fn of(message: &[u8]) -> Read<Option<Self>> {
+        let Question::TwoSided { antecedent, succedent } = Question::read(message)? else {
+            return Ok(None);
+        };
+        let sequent = TwoSidedSequent::new(antecedent, succedent).to_one_sided();
+        let one_sided = Question::one_sided(sequent.linear, sequent.unrestricted).message();
+        let one_sided = one_sided.expect("negation keeps the length");
+        Ok(Some(QuestionRecord { question: message.to_vec(), one_sided }))
+    }
+
+    pub fn write(&self, out: &mut Vec<u8>) {
+        put_counted(out, &self.question);
+        put_counted(out, &self.one_sided);
+    }
+
+    fn read(cursor: &mut Cursor) -> Read<Self> {
+        Ok(QuestionRecord { question: cursor.counted()?.to_vec(), one_sided: cursor.counted()?.to_vec() })
     }
 }
 
@@ -215,6 +245,10 @@ fn all<T>(bytes: &[u8], read: impl Fn(&mut Cursor) -> Read<T>) -> Read<Vec<T>> {
 
 pub fn formulas(bytes: &[u8]) -> Read<Vec<FormulaRecord>> {
     all(bytes, FormulaRecord::read)
+}
+
+pub fn questions(bytes: &[u8]) -> Read<Vec<QuestionRecord>> {
+    all(bytes, QuestionRecord::read)
 }
 
 pub fn trees(bytes: &[u8]) -> Read<Vec<TreeRecord>> {

@@ -1,6 +1,5 @@
 // Replays the oracle's answers on formulas (docs/ORACLE.md): every formula of the list is negated, spelled out, judged positive or not and printed twice, and each answer is compared with
 // what the Rust said, byte for byte. Then formulas at the limits of document 01, whose answers are settled.
-use check::same;
 use formula::Positive;
 use formula::Written;
 use stored::MOST_RECORDS;
@@ -28,8 +27,7 @@ fn is_written(w: Written, out: &[u8], bytes: &[u8]) -> bool {
     let Written::Bytes(n) = w else {
         return false;
     };
-    let n = stored::at_most(n, out);
-    same(&out[..n], bytes)
+    stored::starts(out, n, bytes)
 }
 
 // The call writes what the list has next.

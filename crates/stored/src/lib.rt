@@ -1,6 +1,7 @@
 // The oracle's stored lists (docs/ORACLE.md, "The files") as standard input, and a tally of what differs from them.
 ghost use Prim.Native.Nat.{_<_};
 ghost use Rattle.io.specs.Counts.{Counts};
+use check::same;
 use libc::STDIN_FILENO;
 use libc::STDOUT_FILENO;
 
@@ -96,4 +97,13 @@ pub fn at_most(n: usize, buf: &[u8]) -> usize
     ensures { λ r. ⌜ Counts r (now (buf .entry)) ⌝ }
 {
     if n < buf.len() { n } else { buf.len() }
+}
+
+// The first n bytes of `buf` are `bytes`.
+pub fn starts(buf: &[u8], n: usize, bytes: &[u8]) -> bool {
+    if n != bytes.len() {
+        return false;
+    }
+    let n = at_most(n, buf);
+    same(&buf[..n], bytes)
 }

@@ -6,7 +6,7 @@ use oracle::filter::{Caps, Filter};
 use oracle::formula;
 use oracle::lists;
 use oracle::question::Question;
-use oracle::records::{self, FormulaRecord, Session, TreeRecord};
+use oracle::records::{self, FormulaRecord, QuestionRecord, Session, TreeRecord};
 use std::path::Path;
 use std::process::exit;
 
@@ -36,6 +36,7 @@ fn main() {
     };
     let root = Path::new(&root);
     let mut differing = check_formulas(&lists::read(root, lists::FORMULAS, records::formulas));
+    differing += check_questions(&lists::read(root, lists::QUESTIONS, records::questions));
     differing += check_trees(&lists::read(root, lists::TREES, records::trees));
     differing += check_sessions(&lists::read(root, lists::SESSIONS, records::sessions));
     exit(i32::from(differing > 0));
@@ -47,6 +48,14 @@ fn check_formulas(stored: &[FormulaRecord]) -> usize {
         tally.compare(formula::read(&record.formula).map(|f| FormulaRecord::of(&f)).as_ref() == Ok(record));
     }
     tally.print("formulas")
+}
+
+fn check_questions(stored: &[QuestionRecord]) -> usize {
+    let mut tally = Tally::default();
+    for record in stored {
+        tally.compare(QuestionRecord::of(&record.question).ok().flatten().as_ref() == Some(record));
+    }
+    tally.print("questions made one-sided")
 }
 
 fn check_trees(stored: &[TreeRecord]) -> usize {

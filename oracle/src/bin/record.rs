@@ -1,9 +1,9 @@
-//! Makes the stored lists: `record ROOT [SEED]` writes formulas, trees and sessions to their places below the root, and prints what they hold.
+//! Makes the stored lists: `record ROOT [SEED]` writes formulas, questions, trees and sessions to their places below the root, and prints what they hold.
 //! The stored lists are those of seed 1. Another seed gives others, and so another comparison of the model with the Rust.
 
 use oracle::lists;
 use oracle::make::{formulas, sessions, trees};
-use oracle::records::{FormulaRecord, Session, TreeRecord};
+use oracle::records::{FormulaRecord, QuestionRecord, Session, TreeRecord};
 use oracle::report;
 use oracle::tree;
 use std::collections::HashSet;
@@ -20,6 +20,7 @@ fn main() {
 
     let made = sessions::make(seed);
     lists::write(root, lists::FORMULAS, &formula_bytes(seed));
+    lists::write(root, lists::QUESTIONS, &question_bytes(&made.groups));
     lists::write(root, lists::TREES, &tree_bytes(seed, &found_trees(&made.groups)));
     lists::write(root, lists::SESSIONS, &session_bytes(&made.groups));
     println!(
@@ -36,6 +37,19 @@ fn formula_bytes(seed: u64) -> Vec<u8> {
         println!("formulas, {name}: {}", records.len());
         records.iter().for_each(|record| record.write(&mut out));
     }
+    out
+}
+
+/// Every two-sided question of a session, once.
+fn question_bytes(groups: &[(String, Vec<Session>)]) -> Vec<u8> {
+    let asked = groups.iter().flat_map(|(_, sessions)| sessions).flat_map(|session| &session.asked);
+    let mut seen = HashSet::new();
+    let messages = asked.map(|asked| &asked.question).filter(|message| seen.insert(*message));
+    let records = messages.filter_map(|message| QuestionRecord::of(message).expect("a stored question can be read"));
+    let records: Vec<QuestionRecord> = records.collect();
+    println!("questions, two-sided: {}", records.len());
+    let mut out = Vec::new();
+    records.iter().for_each(|record| record.write(&mut out));
     out
 }
 
