@@ -1,5 +1,6 @@
 // The library for C and Rust: each public call under a plain name, over numbers, references and slices alone. Any bytes, words and places may be lent. A call returns document 01's number of its
 // answer, and every place that is lent for a value is settled on every answer: 0 where there is nothing to say.
+mod proved; // proved.rt: the search's answer as its number, a length and the counters
 mod said; // said.rt: an answer as its number and its value
 mod verdict; // verdict.rt: the verifier's answer as its number and a record of the fault
 
@@ -12,9 +13,13 @@ ghost use Rattle.formula.specs.Calls as calls;
 ghost use Rattle.tree.specs.Answers.{depth-of};
 ghost use Rattle.verify.specs.Verdicts.{checked};
 ghost use Rattle.verify.specs.Walks.{mode-test};
+ghost use Rattle.prover.specs.Promise.{call-of};
 ghost use Rattle.memory.specs.Meaning.{words, ResetTo};
 ghost use Rattle.vakelumba.specs.Says.{of-measured, of-positive, Says, TextSaid, TurnedSaid, FormedSaid};
 ghost use Rattle.vakelumba.specs.Judged.{JudgedSaid};
+ghost use Rattle.vakelumba.specs.Proved.{ProvedSaid};
+use proved::Counters;
+use proved::asked;
 use said::said_measured;
 use said::said_written;
 use said::tell;
@@ -114,4 +119,25 @@ pub extern "C" fn vk_well_formed(mem: &[u16]) -> u8
     } else {
         memory::WRONG_MEMORY
     }
+}
+
+// search.rs: `Prover::prove`, of one question: the tree into `out`, its length into `written`, and explored, hits and depth reached into the lent counters. `mem` keeps formulas and failures for
+// later calls until `vk_reset`; `work` has at least `budget` words.
+#[no_mangle]
+pub extern "C" fn vk_prove(
+    counters: &mut Counters,
+    question: &[u8],
+    limit: usize,
+    budget: usize,
+    cache: bool,
+    mem: &mut [u16],
+    work: &mut [u64],
+    out: &mut [u8],
+    written: &mut usize,
+) -> u8
+    ensures { λ r. ⌜ ProvedSaid (call-of (now (question .entry)) limit budget cache (now (mem .entry)) (now (work .entry)) (now (out .entry))) r (now (counters .exit)) (now (written .exit)) (now (mem .exit)) (now (work .exit)) (now (out .exit)) ⌝ }
+{
+    let t = asked(question, limit, budget, cache, mem, work, out, written);
+    *counters = t.counters;
+    t.number
 }

@@ -1,0 +1,36 @@
+-- `replay_sessions::limits::long` is safe: the words that are lent lie within the array. Assumes nothing.
+use native.Mathlib.Omega.{arith}
+use Rattle.io.proofs.Counting.{front}
+use borrow.Author.Needs.{needs}
+use Rattle.replay_sessions.proofs.limits.long.Statement.{statement}
+use Rattle.replay_sessions.proofs.limits.long.Tie as tie
+
+returns : tie.Need-returns
+returns c = search needs
+
+slice-aggregate-ask : tie.Need-slice-aggregate-ask
+slice-aggregate-ask c = search needs
+
+usual-requires : tie.Need-usual-requires
+usual-requires c κs = search needs
+
+array-borrow-prefix-mem : tie.Need-array-borrow-prefix-mem
+array-borrow-prefix-mem c = search needs
+
+slice-aggregate-ask-2 : tie.Need-slice-aggregate-ask-2
+slice-aggregate-ask-2 c = front _ _ (omega arith)
+
+slice-aggregate-ask-3 : tie.Need-slice-aggregate-ask-3
+slice-aggregate-ask-3 c = search needs
+
+slice-aggregate-ask-4 : tie.Need-slice-aggregate-ask-4
+slice-aggregate-ask-4 c = search needs
+
+ask-requires : tie.Need-ask-requires
+ask-requires c κs = search needs
+
+returns-2 : tie.Need-returns-2
+returns-2 c = search needs
+
+pub long-spec : {M : Type 1} → statement M
+long-spec = tie.close (tie.spec returns slice-aggregate-ask usual-requires array-borrow-prefix-mem slice-aggregate-ask-2 slice-aggregate-ask-3 slice-aggregate-ask-4 ask-requires returns-2)
