@@ -1,4 +1,4 @@
-//! Where the stored lists stand below the root of the repository, each of them once: as the standard input of the program that replays it, or in answers/.
+//! Where the stored lists stand below the root of the repository, each of them once: as the standard input of the program that replays it.
 
 use crate::cursor::Read;
 use std::path::Path;
@@ -6,7 +6,7 @@ use std::path::Path;
 pub const FORMULAS: &str = "crates/replay_formulas/stdin";
 pub const QUESTIONS: &str = "crates/replay_questions/stdin";
 pub const TREES: &str = "crates/replay_trees/stdin";
-pub const SESSIONS: &str = "oracle/answers/sessions.bin";
+pub const SESSIONS: &str = "crates/replay_sessions/stdin";
 
 pub fn read<T>(root: &Path, list: &str, records: impl Fn(&[u8]) -> Read<T>) -> T {
     let bytes = std::fs::read(root.join(list)).unwrap_or_else(|why| panic!("{list}: {why}"));

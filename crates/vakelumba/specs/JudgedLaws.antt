@@ -1,5 +1,5 @@
 -- Laws of what the verifier's call at the boundary says: each verdict as a number and a fault, and that no second result meets the promise. Assumes nothing.
-use mathlib.Core.Path.{_≡_, refl, sym, ap, _∙_}
+use mathlib.Core.Path.{_≡_, sym, ap, _∙_}
 use mathlib.Core.Bool.{Bool, true, false}
 use Prim.Native.Nat.{ℕ}
 use Rattle.logic.specs.Tree.{Tree}

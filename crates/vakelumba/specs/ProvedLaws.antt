@@ -1,5 +1,5 @@
 -- Laws of what the search's call at the boundary says: each answer as a report and a length, and that no second result meets the promise. Assumes nothing.
-use mathlib.Core.Path.{_≡_, refl, sym, ap, _∙_}
+use mathlib.Core.Path.{_≡_, sym, ap, _∙_}
 use mathlib.Core.List.{List}
 use Prim.Native.Nat.{ℕ}
 use Rattle.formula.specs.Answers.{number-of}
