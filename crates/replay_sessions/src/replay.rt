@@ -6,7 +6,6 @@ use crate::asking::ask;
 use crate::asking::failures_held;
 use crate::asking::formulas_held;
 use crate::asking::to;
-use check::same;
 use libc::STDOUT_FILENO;
 use question::FIRST;
 use stored::MOST_RECORDS;
@@ -34,8 +33,7 @@ fn is_written(said: Said, out: &[u8]) -> bool {
     let length = stored::long_number();
     let mut tree = [0u8; MESSAGE];
     let n = stored::bytes(&mut tree, length);
-    let k = stored::at_most(said.written, out);
-    said.written == length && same(&out[..k], &tree[..n])
+    said.written == length && stored::starts(out, length, &tree[..n])
 }
 
 // Where the next item of a failure goes, and where the marked ones begin: 0 where none came.
