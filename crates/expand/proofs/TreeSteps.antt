@@ -21,8 +21,8 @@ use Rattle.expand.specs.InMemory.{Kept, InMemory, InMemory*}
 use Rattle.expand.specs.Negations.{Negated}
 use Rattle.expand.specs.Writing.{Wrote, Items, Zone-room, Weighs, Sound, Means, SpellsOut, premise-counts, first-of, second-of, Stepping, Stepping₂}
 use Rattle.expand.specs.Trees.{most-bytes, most-levels, head, Head-length, Head-room, Carries, Of-tree, Counted, Writing, Written, Long, Message-room, Message, Answered}
-use Rattle.expand.specs.declared.tree.Place.{Place}
-use Rattle.expand.specs.declared.tree.Output.the-variants.{Bytes, TooLong}
+use Rattle.expand.specs.declared.nodes.Place.{Place}
+use Rattle.expand.specs.declared.nodes.Output.the-variants.{Bytes, TooLong}
 use Rattle.expand.proofs.ByteSteps.{wrote-one, wrote-then, wrote-as, wrote-length}
 use Rattle.expand.proofs.PremiseSteps.{fifteen, step-known, step-sized}
 

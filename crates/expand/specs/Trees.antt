@@ -14,9 +14,9 @@ use Rattle.expand.specs.Short.{rule-of, expand}
 use Rattle.expand.specs.InMemory.{InMemory}
 use Rattle.expand.specs.Negations.{Negated}
 use Rattle.expand.specs.Writing.{Wrote, Sound, premise-counts}
-use Rattle.expand.specs.declared.tree.Place.{Place}
-use Rattle.expand.specs.declared.tree.Output.{Output}
-use Rattle.expand.specs.declared.tree.Output.the-variants.{Bytes, TooLong}
+use Rattle.expand.specs.declared.nodes.Place.{Place}
+use Rattle.expand.specs.declared.nodes.Output.{Output}
+use Rattle.expand.specs.declared.nodes.Output.the-variants.{Bytes, TooLong}
 
 -- the most bytes that a tree's body may have, and the most levels that a tree has
 abbrev pub most-bytes : ℕ

@@ -2,5 +2,5 @@
 // sequent is ever stored (specs/Short.antt: `expand`).
 pub mod negations; // negations.rt: which held formula is the negation of which
 pub mod steps; // steps.rt: what a node concludes and what its premises are
-pub mod bytes; // bytes.rt: held formulas and zones in bytes
-pub mod tree; // tree.rt: a tree's length, and its bytes
+pub mod writers; // writers.rt: held formulas and zones in bytes
+pub mod nodes; // nodes.rt: a tree's length, and its bytes

@@ -2,24 +2,20 @@
 use mathlib.Core.Path.{_≡_, refl, sym, ap, _∙_}
 use mathlib.Core.Logic.{⊎-elim}
 use mathlib.Core.Bool.{Bool, true, false, not, false≢true}
-use mathlib.Core.List.{List, [], _∷_, _++_, append-assoc}
-use Prim.Native.Nat.{ℕ, zero, suc, _+_, _-_, _*_, _/_, _%_, _≤_, _<_, min, max}
+use mathlib.Core.List.{List}
+use Prim.Native.Nat.{ℕ, zero, suc, _+_, _*_, _/_, _%_, _≤_, _<_}
 use native.Mathlib.Nat.{eq-or-lt-of-le, le-of-suc-le-suc}
 use native.Mathlib.Numerals.{add-one}
 use native.Mathlib.Omega.{arith}
-use lib.ListN.{getD, set, length, take, drop, length-set, length-drop, drop-of-length-le}
-use lib.Seq.{length-take-le, drop-cons, take-suc-set, getD-take, getD-set-same, getD-set-other, ext-getD}
+use lib.ListN.{getD, set, length, length-set}
+use lib.Seq.{length-take-le, getD-take, getD-set-same, getD-set-other, ext-getD}
 use lib.Dec.{eqb}
 use borrow.Author.Count.{below-more}
 use borrow.Author.Tests.{eqb-true, eqb-false}
 use Rattle.held.specs.Answers.{Tells}
 use Rattle.held.specs.Words.{at, count, Zeros}
-use Rattle.zones.specs.declared.Zones.{Zones}
 use Rattle.failures.specs.declared.items.Items.{Items}
-use Rattle.failures.specs.Items.{all-items, key-items, Names, Item, Listing, listed, Fits, Lists}
-use Rattle.failures.specs.ItemsLaws.{all-items-length}
-use Rattle.failures.specs.Sort.{insert, sort}
-use Rattle.failures.specs.SortLaws.{sort-length}
+use Rattle.failures.specs.Items.{Item, Listing, listed, Fits}
 use Rattle.failures.specs.Records.{size-at, item-at, items-at, record-at, Appended}
 use Rattle.failures.specs.RecordsLaws.{items-length, items-item, items-listing, listing-next}
 
@@ -44,50 +40,6 @@ item-told m x t l h e = go (eqb t 12) refl
     go : (b : Bool) → eqb t 12 ≡ b → Tells (not b) (Item m x)
     go true q = λ p. p .bare (omega arith) (sym e ∙ eqb-true t 12 q)
     go false q = record { low = l; bare = λ z w. eqb-false t 12 q (e ∙ w) }
-
--- the loop of `inserted`: the items before place k are in order, and `carried` goes on; those from k on stand as at first
-pub record Inserting (x n : ℕ) (items₀ items : List ℕ) (carried k : ℕ) : Type 0 where
-  pub sized : length items ≡ 31
-  pub high : k ≤ n
-  pub done : take k items ++ insert carried (drop k (take n items₀)) ≡ insert x (take n items₀)
-  pub ahead : (j : ℕ) → k ≤ j → getD items j 0 ≡ getD items₀ j 0
-
-pub inserting-start : (x n : ℕ) (items : List ℕ) → length items ≡ 31 → Inserting x n items items x 0
-inserting-start x n items e = record { sized = e; high = omega arith; done = refl; ahead = λ j h. refl }
-
-module _ {x n : ℕ} {items₀ items : List ℕ} {carried k : ℕ} (p : Inserting x n items₀ items carried k) (sized₀ : length items₀ ≡ 31) (low : n < 31) where
-  pub inserting-step : k < n → Inserting x n items₀ (set items k (min carried (getD items k 0))) (max carried (getD items k 0)) (k + 1)
-  unfolding insert
-  inserting-step h =
-      let y = getD items k 0 in
-      let here : getD (take n items₀) k 0 ≡ y = getD-take n items₀ k 0 h ∙ sym (p .ahead k (omega arith)) in
-      let left : drop k (take n items₀) ≡ y ∷ drop (suc k) (take n items₀) = rw here at (drop-cons (take n items₀) k 0 (omega (arith, length-take-le n items₀ (omega arith)))) in
-      record {
-        sized = length-set items k _ ∙ p .sized;
-        high = omega arith;
-        done =
-            rw (add-one k)
-            (ap (λ (l : List ℕ). l ++ insert (max carried y) (drop (suc k) (take n items₀))) (take-suc-set items k (min carried y) (omega (arith, p .sized)))
-            ∙ append-assoc (take k items) (min carried y ∷ []) _
-            ∙ sym (ap (λ (l : List ℕ). take k items ++ insert carried l) left)
-            ∙ p .done);
-        ahead = λ j l. getD-set-other items k j _ 0 (λ e. omega arith) ∙ p .ahead j (omega arith);
-      }
-
-  pub inserting-end : n ≤ k → Lists record { items = set items n carried; len = n + 1 } (insert x (take n items₀))
-  unfolding insert
-  inserting-end h =
-      let e : k ≡ n = omega (arith, p .high) in
-      let none : drop k (take n items₀) ≡ [] = drop-of-length-le (take n items₀) {i = k} (omega (arith, length-take-le n items₀ (omega arith))) in
-      record {
-        fits = record { sized = length-set items n carried ∙ p .sized; few = omega arith };
-        list =
-            rw (add-one n)
-            (take-suc-set items n carried (omega (arith, p .sized))
-            ∙ sym (ap (λ (l : List ℕ). take n items ++ insert carried l) none)
-            ∙ ap (λ (j : ℕ). take j items ++ insert carried (drop k (take n items₀))) (sym e)
-            ∙ p .done);
-      }
 
 -- failure i and items by value
 module _ (f : List ℕ) (i : ℕ) (s : Items) (room : 33 + 32 * i ≤ length f) (few : size-at f i ≤ 31) (fits : Fits s) where
@@ -229,47 +181,3 @@ module _ {f₀ f : List ℕ} {k : ℕ} (p : Clearing f₀ f k) where
 
 pub zeros-to : (f : List ℕ) (n k : ℕ) → n ≡ k → Zeros f 0 n → Zeros f 0 k
 zeros-to f n k e z = record { zero = λ j l u. z .zero j l (omega arith) }
-
--- the loop of `items_of`: the items from place i on are in order
-pub record Collecting (m : List ℕ) (z : Zones) (s : Items) (i : ℕ) : Type 0 where
-  pub high : i ≤ length (all-items m z)
-  pub lists : Lists s (sort (drop i (all-items m z)))
-  pub count : s .len + i ≡ length (all-items m z)
-
-pub collecting-start : {m : List ℕ} {z : Zones} (n : Names m z) (items : List ℕ) → length items ≡ 31 → Collecting m z record { items = items; len = 0 } (z .«linear_len» + z .«unrestricted_len»)
-unfolding sort
-collecting-start {m} {z} n items e =
-    let full = all-items-length n in
-    let none : drop (z .«linear_len» + z .«unrestricted_len») (all-items m z) ≡ [] = drop-of-length-le (all-items m z) {i = z .«linear_len» + z .«unrestricted_len»} (omega arith) in
-    record {
-      high = omega arith;
-      lists = record { fits = record { sized = e; few = omega arith }; list = sym (ap sort none) };
-      count = omega arith;
-    }
-
-module _ {m : List ℕ} {z : Zones} {s : Items} {i : ℕ} (p : Collecting m z s i) where
-  pub collecting-step : 0 < i → {r : Items} → Lists r (insert (getD (all-items m z) (i - 1) 0) (listed s)) → Collecting m z r (i - 1)
-  unfolding sort
-  collecting-step h {r} l =
-      let here : drop (i - 1) (all-items m z) ≡ getD (all-items m z) (i - 1) 0 ∷ drop (suc (i - 1)) (all-items m z) = drop-cons (all-items m z) (i - 1) 0 (omega (arith, p .high)) in
-      let next : suc (i - 1) ≡ i = omega arith in
-      let all : listed r ≡ sort (drop (i - 1) (all-items m z)) =
-      l .list
-      ∙ ap (insert (getD (all-items m z) (i - 1) 0)) (p .lists .list ∙ ap (λ (k : ℕ). sort (drop k (all-items m z))) (sym next))
-      ∙ sym (ap sort here) in
-      record {
-        high = omega (arith, p .high);
-        lists = record { fits = l .fits; list = all };
-        count =
-            omega (
-              arith,
-              ap length all,
-              sort-length (drop (i - 1) (all-items m z)),
-              length-drop (i - 1) (all-items m z),
-              length-take-le (r .len) (r .items) (omega (arith, l .fits .sized, l .fits .few)),
-              p .high,
-            );
-      }
-
-  pub collecting-end : i ≤ 0 → Lists s (key-items m z)
-  collecting-end h = let e : i ≡ 0 = omega arith in rw e at (p .lists)

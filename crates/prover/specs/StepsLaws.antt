@@ -19,8 +19,8 @@ use Rattle.question.specs.TurningLaws.{front-stored}
 use Rattle.expand.specs.Short.{expand}
 use Rattle.expand.specs.InMemory.{InMemory, InMemory*}
 use Rattle.expand.specs.Trees.{most-levels, Of-tree, Fitting, Unfit, Answered}
-use Rattle.expand.specs.declared.tree.Output.{Output}
-use Rattle.expand.specs.declared.tree.Output.the-variants.{Bytes, TooLong}
+use Rattle.expand.specs.declared.nodes.Output.{Output}
+use Rattle.expand.specs.declared.nodes.Output.the-variants.{Bytes, TooLong}
 use Rattle.failures.specs.AlikeLaws.{alike-self}
 use Rattle.memory.specs.Meaning as memory
 use Rattle.memory.specs.Meaning.{holds, held-count, failed, formula-words}

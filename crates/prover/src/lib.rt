@@ -8,8 +8,8 @@ ghost use Rattle.prover.specs.Promise.{Fit, zeroes, call-of, left-of, Pr
 ghost use Rattle.prover.specs.Steps.{Writable, Writes, Searches};
 use ask::whole::Reading;
 use ask::whole::read_into;
-use expand::tree::Output;
-use expand::tree::write_tree;
+use expand::nodes::Output;
+use expand::nodes::write_tree;
 use formula::Refusal;
 use memory::FORMULAS;
 use search::Outcome;

@@ -2,18 +2,18 @@
 use mathlib.Core.Path.{_≡_, refl, sym, ap, _∙_}
 use mathlib.Core.Bool.{Bool, true, false}
 use mathlib.Core.List.{List, [], _∷_, _++_, append-assoc, append-nil}
-use Prim.Native.Nat.{ℕ, zero, suc, _+_, _-_, _/_, _%_, _≤_, _<_, min}
+use Prim.Native.Nat.{ℕ, zero, suc, _+_, _-_, _/_, _%_, _≤_, _<_}
 use native.Mathlib.Numerals.{add-one}
 use native.Mathlib.Nat.{add-zero}
 use native.Mathlib.Omega.{arith}
-use lib.Dec.{eqb}
-use lib.ListN.{getD, set, length, take, drop, length-append, length-take, length-drop, length-set, drop-of-length-le}
-use lib.Seq.{length-take-le, take-suc, take-take, take-all, take-append-le, drop-append-le, drop-cons, take-suc-set, take-set-le, getD-set-other, getD-take, set-split, take-set-lt}
+use lib.Dec.{eqb, leb}
+use lib.ListN.{getD, set, length, take, drop, length-set, drop-of-length-le}
+use lib.Seq.{length-take-le, take-suc, take-take, drop-cons, take-suc-set, take-set-le, getD-set-other, getD-take, set-split, take-set-lt}
 use Rattle.zones.specs.declared.Zones.{Zones}
-use Rattle.zones.specs.ZonesLaws.{remove-snoc, remove-length, part-length, made, linears-length, unrestricteds-length}
-use Rattle.zones.specs.Zones.{linears, unrestricteds, Fits, Made, Shifted, Change, without, replaced, pushed, only, kept, split, without-unrestricted, pushed-unrestricted, linear-after, unrestricted-after, remove, replace, keep, as-number, bit, part}
+use Rattle.zones.specs.ZonesLaws.{remove-snoc, remove-length, remove-at, made}
+use Rattle.zones.specs.Zones.{Fits, Made, Shifted, without, replaced, pushed, only, split, without-unrestricted, pushed-unrestricted, remove, replace, keep, as-number, bit, past, part}
 
--- the loop of `shifted`: the items before place k have moved, and those after it stand as at first
+-- the loop of `shift_down`: the items before place k have moved, and those after it stand as at first
 pub record Moving (items : List ℕ) (i last k : ℕ) (r : List ℕ) : Type 0 where
   pub sized : length r ≡ length items
   pub low : i ≤ k
@@ -56,16 +56,16 @@ module _ {items : List ℕ} {i last k : ℕ} {r : List ℕ} (m : Moving items i 
     moved = rw e at (m .moved);
   }
 
--- the loop of `kept`: the items before place k are dealt with, `to` of them kept, and those from k on stand as at first
-pub record Keeping (side mask : ℕ) (items : List ℕ) (n : ℕ) (r : List ℕ) (m to k : ℕ) : Type 0 where
+-- the loop of `part`, over the first n items without the one at place i: those before place k are dealt with, `to` of them kept, and the items from k on stand as at first
+pub record Keeping (side i mask : ℕ) (items : List ℕ) (n : ℕ) (r : List ℕ) (m to k : ℕ) : Type 0 where
   pub sized : length r ≡ length items
   pub low : to ≤ k
-  pub high : k ≤ n
-  pub done : take to r ++ part side m (drop k (take n items)) ≡ part side mask (take n items)
+  pub high : k < n
+  pub done : take to r ++ part side m (drop k (remove i (take n items))) ≡ part side mask (remove i (take n items))
   pub ahead : (j : ℕ) → k ≤ j → getD r j 0 ≡ getD items j 0
 
-pub keeping-start : (side mask : ℕ) (items : List ℕ) (n : ℕ) → Keeping side mask items n items mask 0 0
-keeping-start side mask items n = record { sized = refl; low = omega arith; high = omega arith; done = refl; ahead = λ j h. refl }
+pub keeping-start : (side i mask : ℕ) (items : List ℕ) (n : ℕ) → 0 < n → Keeping side i mask items n items mask 0 0
+keeping-start side i mask items n h = record { sized = refl; low = omega arith; high = h; done = refl; ahead = λ j h. refl }
 
 keep-take : (b : Bool) (r : List ℕ) (to a : ℕ) (rest : List ℕ) → to < length r → take (to + as-number b) (set r to a) ++ rest ≡ take to r ++ keep b a rest
 keep-take true r to a rest h = rw add-one (ap (λ (l : List ℕ). l ++ rest) (take-suc-set r to a h) ∙ append-assoc (take to r) (a ∷ []) rest)
@@ -78,29 +78,42 @@ as-number-le false = omega arith
 pub bit-le : (side mask : ℕ) → bit side mask ≤ 1
 bit-le side mask = as-number-le (eqb (mask % 2) side)
 
-module _ {side mask : ℕ} {items : List ℕ} {n : ℕ} {r : List ℕ} {m to k : ℕ} (p : Keeping side mask items n r m to k) (fits : n ≤ length items) where
-  pub keeping-step : k < n → Keeping side mask items n (set r to (getD r k 0)) (m / 2) (to + bit side m) (k + 1)
+pub past-le : (i k : ℕ) → past i k ≤ 1
+past-le i k = as-number-le (leb i k)
+
+module _ {side i mask : ℕ} {items : List ℕ} {n : ℕ} {r : List ℕ} {m to k : ℕ} (p : Keeping side i mask items n r m to k) (fits : n ≤ length items) (place : i < n) where
+  items-length : length (take n items) ≡ n
+  items-length = length-take-le n items fits
+
+  others-length : length (remove i (take n items)) + 1 ≡ n
+  others-length = remove-length (take n items) i (omega (arith, items-length)) ∙ items-length
+
+  pub keeping-step : k + 1 < n → Keeping side i mask items n (set r to (getD r (k + past i k) 0)) (m / 2) (to + bit side m) (k + 1)
   unfolding part
   keeping-step h =
-      let here : getD (take n items) k 0 ≡ getD r k 0 = getD-take n items k 0 h ∙ sym (p .ahead k (omega arith)) in
-      let left : drop k (take n items) ≡ getD r k 0 ∷ drop (suc k) (take n items) =
-      rw here at (drop-cons (take n items) k 0 (omega (arith, length-take-le n items fits))) in
+      let x : ℕ = getD r (k + past i k) 0 in
+      let here : getD (remove i (take n items)) k 0 ≡ x =
+      remove-at (take n items) i k (omega (arith, items-length))
+      ∙ getD-take n items (k + past i k) 0 (omega (arith, past-le i k))
+      ∙ sym (p .ahead (k + past i k) (omega arith)) in
+      let left : drop k (remove i (take n items)) ≡ x ∷ drop (suc k) (remove i (take n items)) =
+      rw here at (drop-cons (remove i (take n items)) k 0 (omega (arith, others-length))) in
       record {
         sized = length-set r to _ ∙ p .sized;
         low = omega (arith, p .low, bit-le side m);
-        high = omega arith;
+        high = h;
         done =
             rw (add-one k)
-            (keep-take (eqb (m % 2) side) r to (getD r k 0) _ (omega (arith, p .low, p .sized))
+            (keep-take (eqb (m % 2) side) r to x _ (omega (arith, p .low, p .sized))
             ∙ sym (ap (λ (l : List ℕ). take to r ++ part side m l) left)
             ∙ p .done);
         ahead = λ j l. getD-set-other r to j _ 0 (λ e. omega (arith, p .low)) ∙ p .ahead j (omega arith);
       }
 
-  pub keeping-end : n ≤ k → take to r ≡ part side mask (take n items)
+  pub keeping-end : n ≤ k + 1 → take to r ≡ part side mask (remove i (take n items))
   unfolding part
   keeping-end h =
-      let none : drop k (take n items) ≡ [] = drop-of-length-le (take n items) {i = k} (omega (arith, length-take-le n items fits)) in
+      let none : drop k (remove i (take n items)) ≡ [] = drop-of-length-le (remove i (take n items)) {i = k} (omega (arith, others-length)) in
       sym (append-nil _) ∙ sym (ap (λ (l : List ℕ). take to r ++ part side m l) none) ∙ p .done
 
 -- one item more, and one item changed
@@ -175,41 +188,18 @@ module _ {z : Zones} (f : Fits z) where
       refl
       (take-removed (omega arith) s)
 
-  pub made-kept : {side mask : ℕ} (r : Zones) {m to k : ℕ} → Keeping side mask (z .linear) (z .«linear_len») (r .linear) m to k → z .«linear_len» ≤ k
+  pub made-split : {side i mask a : ℕ} (r : Zones) {m to k : ℕ} → i < z .«linear_len» → Keeping side i mask (z .linear) (z .«linear_len») (r .linear) m to k → z .«linear_len» ≤ k + 1
       → r .unrestricted ≡ z .unrestricted → r .«unrestricted_len» ≡ z .«unrestricted_len»
-      → Made z (kept side mask)
-      record { linear = r .linear; «linear_len» = to; unrestricted = r .unrestricted; «unrestricted_len» = r .«unrestricted_len» }
-  made-kept {side} {mask} r p h u n =
+      → Made z (split side i mask a)
+      record { linear = set (r .linear) to a; «linear_len» = to + 1; unrestricted = r .unrestricted; «unrestricted_len» = r .«unrestricted_len» }
+  made-split {side} {i} {mask} {a} r {m} {to} {k} l p h u n =
       made
       record {
         few = omega (arith, f .few, n, p .low, p .high);
-        linear-sized = p .sized ∙ f .linear-sized;
+        linear-sized = length-set (r .linear) to a ∙ p .sized ∙ f .linear-sized;
         unrestricted-sized = ap length u ∙ f .unrestricted-sized;
       }
-      (kept side mask)
-      (keeping-end p (omega (arith, f .few, f .linear-sized)) h)
-      (rw (u, n))
-
-  -- a part of what is left without a formula has room for one more
-  pub part-room : {side mask i : ℕ} {z₁ z₂ : Zones} → i < z .«linear_len» → Made z (without i) z₁ → Made z₁ (kept side mask) z₂ → z₂ .«linear_len» + z₂ .«unrestricted_len» < 31
-  part-room {side} {mask} {i} {z₁} {z₂} h p q =
-      omega (
-        arith,
-        f .few,
-        q .linear-count,
-        q .unrestricted-count,
-        part-length side mask (linears z₁),
-        ap length (p .linear),
-        ap length (p .unrestricted),
-        linears-length f,
-        unrestricteds-length f,
-        remove-length (linears z) i (omega (arith, linears-length f)),
-      )
-
-  pub made-split : {side mask i a : ℕ} {z₁ z₂ z₃ : Zones} → Made z (without i) z₁ → Made z₁ (kept side mask) z₂ → Made z₂ (pushed a) z₃ → Made z (split side i mask a) z₃
-  made-split {side} {mask} {i} {a} p q s =
-      made
-      (s .fits)
       (split side i mask a)
-      (s .linear ∙ ap (λ (l : List ℕ). l ++ (a ∷ [])) (q .linear ∙ ap (part side mask) (p .linear)))
-      (s .unrestricted ∙ q .unrestricted ∙ p .unrestricted)
+      (take-push (r .linear) to a (omega (arith, f .few, f .linear-sized, p .sized, p .low, p .high))
+      ∙ ap (λ (l : List ℕ). l ++ (a ∷ [])) (keeping-end p (omega (arith, f .few, f .linear-sized)) l h))
+      (rw (u, n))

@@ -3,7 +3,7 @@ use mathlib.Core.Path.{_≡_}
 use mathlib.Core.Bool.{Bool, true, false}
 use mathlib.Core.List.{List, [], _∷_, _++_, map}
 use Prim.Native.Nat.{ℕ, suc, _+_, _≤_, _<_, _/_, _%_}
-use lib.Dec.{eqb}
+use lib.Dec.{eqb, leb}
 use lib.ListN.{getD, length, take, drop}
 use Rattle.logic.specs.Formula.{Formula}
 use Rattle.logic.specs.Sequent.{Sequent, _﹔_}
@@ -36,6 +36,10 @@ as-number false = 0
 abbrev pub bit : ℕ → ℕ → ℕ
 bit side mask = as-number (eqb (mask % 2) side)
 
+-- 1 from place i on, and else 0
+abbrev pub past : ℕ → ℕ → ℕ
+past i k = as-number (leb i k)
+
 abbrev pub keep : {A : Type 0} → Bool → A → List A → List A
 keep true x xs = x ∷ xs
 keep false x xs = xs
@@ -51,7 +55,6 @@ pub data Change (A : Type 0) : Type 0 where
   replaced : (i : ℕ) (a : A) → Change A
   pushed : (a : A) → Change A
   only : (a : A) → Change A
-  kept : (side mask : ℕ) → Change A
   split : (side i mask : ℕ) (a : A) → Change A
   without-unrestricted : (i : ℕ) → Change A
   pushed-unrestricted : (a : A) → Change A
@@ -61,7 +64,6 @@ linear-after (without i) Γ = remove i Γ
 linear-after (replaced i a) Γ = replace i a Γ
 linear-after (pushed a) Γ = Γ ++ (a ∷ [])
 linear-after (only a) Γ = a ∷ []
-linear-after (kept side mask) Γ = part side mask Γ
 linear-after (split side i mask a) Γ = part side mask (remove i Γ) ++ (a ∷ [])
 linear-after (without-unrestricted i) Γ = Γ
 linear-after (pushed-unrestricted a) Γ = Γ
@@ -71,7 +73,6 @@ unrestricted-after (without i) Θ = Θ
 unrestricted-after (replaced i a) Θ = Θ
 unrestricted-after (pushed a) Θ = Θ
 unrestricted-after (only a) Θ = Θ
-unrestricted-after (kept side mask) Θ = Θ
 unrestricted-after (split side i mask a) Θ = Θ
 unrestricted-after (without-unrestricted i) Θ = remove i Θ
 unrestricted-after (pushed-unrestricted a) Θ = Θ ++ (a ∷ [])
@@ -111,7 +112,6 @@ Adds n (without i) = Unit {0}
 Adds n (replaced i a) = a < n
 Adds n (pushed a) = a < n
 Adds n (only a) = a < n
-Adds n (kept side mask) = Unit {0}
 Adds n (split side i mask a) = a < n
 Adds n (without-unrestricted i) = Unit {0}
 Adds n (pushed-unrestricted a) = a < n

@@ -3,18 +3,18 @@
 use mathlib.Core.Path.{_≡_, refl, sym, ap, _∙_}
 use mathlib.Core.Bool.{Bool, true, false, not}
 use mathlib.Core.List.{List, [], _∷_, _++_, append-assoc, map}
-use Prim.Native.Nat.{ℕ, zero, suc, _+_, _/_, _%_, _≤_, _<_}
-use native.Mathlib.Nat.{mod-lt}
+use Prim.Native.Nat.{ℕ, zero, suc, _+_, _-_, _/_, _%_, _≤_, _<_}
+use native.Mathlib.Nat.{mod-lt, add-zero}
 use native.Mathlib.Omega.{arith}
-use lib.Dec.{eqb}
+use lib.Dec.{eqb, leb}
 use lib.ListN.{getD, length, take, drop, length-append, length-take, length-drop, List·getD-append}
 use lib.Seq.{length-take-le, take-append-le, drop-append-le, take-suc, drop-cons, getD-take, getD-drop, getD-append-add}
-use borrow.Author.Tests.{eqb-true, eqb-false, eq-eqb, ne-eqb}
+use borrow.Author.Tests.{leb-true, leb-false, eqb-true, eqb-false, eq-eqb, ne-eqb}
 use Rattle.logic.specs.Formula.{Formula}
 use Rattle.logic.specs.Sequent.{Sequent, _﹔_}
 use Rattle.logic.specs.Split as splits
 use Rattle.zones.specs.declared.Zones.{Zones}
-use Rattle.zones.specs.Zones.{linears, unrestricteds, Fits, remove, replace, keep, part, meant, Below, Within, Adds, Change, without, replaced, pushed, only, kept, split, without-unrestricted, pushed-unrestricted, linear-after, unrestricted-after, Made, Empty}
+use Rattle.zones.specs.Zones.{linears, unrestricteds, Fits, remove, replace, as-number, past, keep, part, meant, Below, Within, Adds, Change, without, replaced, pushed, only, split, without-unrestricted, pushed-unrestricted, linear-after, unrestricted-after, Made, Empty}
 
 -- one more item after the one taken out
 pub remove-snoc : (xs : List ℕ) (i a : ℕ) → i < length xs → remove i (xs ++ (a ∷ [])) ≡ remove i xs ++ (a ∷ [])
@@ -22,6 +22,26 @@ remove-snoc xs i a h = rw (take-append-le i xs (a ∷ []) (omega arith), drop-ap
 
 pub remove-length : (xs : List ℕ) (i : ℕ) → i < length xs → length (remove i xs) + 1 ≡ length xs
 remove-length xs i h = omega (arith, length-append (take i xs) (drop (suc i) xs), length-take-le i xs (omega arith), length-drop (suc i) xs)
+
+-- what stands at place k without the item at place i
+pub remove-at : (xs : List ℕ) (i k : ℕ) → i < length xs → getD (remove i xs) k 0 ≡ getD xs (k + past i k) 0
+remove-at xs i k h = go (leb i k) refl
+  where
+    low : length (take i xs) ≡ i
+    low = length-take-le i xs (omega arith)
+
+    go : (b : Bool) → leb i k ≡ b → getD (remove i xs) k 0 ≡ getD xs (k + as-number b) 0
+    go true e =
+        let g : i ≤ k = leb-true i k e in
+        let from : k ≡ length (take i xs) + (k - i) = omega (arith, low) in
+        let to : suc i + (k - i) ≡ k + 1 = omega arith in
+        ap (λ (n : ℕ). getD (remove i xs) n 0) from
+        ∙ getD-append-add (take i xs) (drop (suc i) xs) (k - i) 0
+        ∙ getD-drop (suc i) xs (k - i) 0
+        ∙ ap (λ (n : ℕ). getD xs n 0) to
+    go false e =
+        let g : k < i = leb-false i k e in
+        List·getD-append (take i xs) (drop (suc i) xs) 0 k (omega (arith, low)) ∙ getD-take i xs k 0 g ∙ rw add-zero refl
 
 pub replace-length : (xs : List ℕ) (i a : ℕ) → i < length xs → length (replace i a xs) ≡ length xs
 replace-length xs i a h = omega (arith, length-append (take i xs) (a ∷ drop (suc i) xs), length-take-le i xs (omega arith), length-drop (suc i) xs)
@@ -160,7 +180,6 @@ map-change f (without i) = without i
 map-change f (replaced i a) = replaced i (f a)
 map-change f (pushed a) = pushed (f a)
 map-change f (only a) = only (f a)
-map-change f (kept side mask) = kept side mask
 map-change f (split side i mask a) = split side i mask (f a)
 map-change f (without-unrestricted i) = without-unrestricted i
 map-change f (pushed-unrestricted a) = pushed-unrestricted (f a)
@@ -171,7 +190,6 @@ module _ {A B : Type 0} (f : A → B) where
   map-linear (replaced i a) Γ = map-replace f i a Γ
   map-linear (pushed a) Γ = map-append f Γ (a ∷ [])
   map-linear (only a) Γ = refl
-  map-linear (kept side mask) Γ = map-part f side mask Γ
   map-linear (split side i mask a) Γ =
       map-append f (part side mask (remove i Γ)) (a ∷ [])
       ∙ ap (λ (l : List B). l ++ (f a ∷ [])) (map-part f side mask (remove i Γ) ∙ ap (part side mask) (map-remove f i Γ))
@@ -183,7 +201,6 @@ module _ {A B : Type 0} (f : A → B) where
   map-unrestricted (replaced i a) Θ = refl
   map-unrestricted (pushed a) Θ = refl
   map-unrestricted (only a) Θ = refl
-  map-unrestricted (kept side mask) Θ = refl
   map-unrestricted (split side i mask a) Θ = refl
   map-unrestricted (without-unrestricted i) Θ = map-remove f i Θ
   map-unrestricted (pushed-unrestricted a) Θ = map-append f Θ (a ∷ [])
@@ -314,7 +331,6 @@ module _ (n : ℕ) where
   below-linear (replaced i a) Γ b h = below-append _ _ (below-take i Γ b) (below-cons h (below-drop (suc i) Γ b))
   below-linear (pushed a) Γ b h = below-append _ _ b (below-one h)
   below-linear (only a) Γ b h = below-one h
-  below-linear (kept side mask) Γ b h = below-part side mask Γ b
   below-linear (split side i mask a) Γ b h = below-append _ _ (below-part side mask _ (below-remove i Γ b)) (below-one h)
   below-linear (without-unrestricted i) Γ b h = b
   below-linear (pushed-unrestricted a) Γ b h = b
@@ -324,7 +340,6 @@ module _ (n : ℕ) where
   below-unrestricted (replaced i a) Θ b h = b
   below-unrestricted (pushed a) Θ b h = b
   below-unrestricted (only a) Θ b h = b
-  below-unrestricted (kept side mask) Θ b h = b
   below-unrestricted (split side i mask a) Θ b h = b
   below-unrestricted (without-unrestricted i) Θ b h = below-remove i Θ b
   below-unrestricted (pushed-unrestricted a) Θ b h = below-append _ _ b (below-one h)

@@ -3,7 +3,7 @@
 ghost use mathlib.Core.Path.{_≡_};
 ghost use Prim.Native.Nat.{_+_, _<_, _≤_};
 ghost use lib.ListN.{length};
-ghost use Rattle.zones.specs.Zones.{linears, unrestricteds, bit, Fits, Made, Empty, Shifted, without, replaced, pushed, only, kept, split, without-unrestricted, pushed-unrestricted};
+ghost use Rattle.zones.specs.Zones.{linears, unrestricteds, bit, past, Fits, Made, Empty, Shifted, without, replaced, pushed, only, split, without-unrestricted, pushed-unrestricted};
 
 pub struct Zones {
     pub linear: [u16; 31],
@@ -12,18 +12,23 @@ pub struct Zones {
     pub unrestricted_len: usize,
 }
 
-// The items with the one at place i taken out: those after it, up to place `last`, move down by one.
-fn shifted(items: [u16; 31], i: usize, last: usize) -> [u16; 31]
-    requires { ⌜ (length items ≡ 31) × ((i ≤ last) × (last < 31)) ⌝ }
-    ensures { λ r. ⌜ Shifted items i last r ⌝ }
+// Takes the item at place i out: those after it, up to place `last`, move down by one.
+fn shift_down(items: &mut [u16; 31], i: usize, last: usize)
+    requires { ⌜ (length (now items) ≡ 31) × ((i ≤ last) × (last < 31)) ⌝ }
+    ensures { λ _. ⌜ Shifted (now (items .entry)) i last (now (items .exit)) ⌝ }
 {
-    let mut r = items;
     let mut k = i;
     while k < last {
-        r[k] = r[k + 1];
+        items[k] = items[k + 1];
         k += 1;
     }
-    r
+}
+
+// 1 from place i on, and else 0.
+fn skipped(i: usize, k: usize) -> usize
+    ensures { λ r. ⌜ r ≡ past i k ⌝ }
+{
+    if i <= k { 1 } else { 0 }
 }
 
 // 1 where the lowest bit of the mask is `side`, and else 0.
@@ -61,10 +66,8 @@ impl Zones {
         ensures { λ r. ⌜ Made self (without i) r ⌝ }
     {
         let last = self.linear_len - 1;
-        let items = self.linear;
         let mut z = self;
-        let moved = shifted(items, i, last);
-        z.linear = moved;
+        shift_down(&mut z.linear, i, last);
         z.linear_len = last;
         z
     }
@@ -75,10 +78,8 @@ impl Zones {
         ensures { λ r. ⌜ Made self (without-unrestricted i) r ⌝ }
     {
         let last = self.unrestricted_len - 1;
-        let items = self.unrestricted;
         let mut z = self;
-        let moved = shifted(items, i, last);
-        z.unrestricted = moved;
+        shift_down(&mut z.unrestricted, i, last);
         z.unrestricted_len = last;
         z
     }
@@ -128,24 +129,26 @@ impl Zones {
         z
     }
 
-    // The linear items whose bit of the mask is `side`, in order.
-    fn kept(self, mask: usize, side: usize) -> Zones
-        requires { ⌜ Fits self ⌝ }
-        ensures { λ r. ⌜ Made self (kept side mask) r ⌝ }
+    // A premise of a tensor at place i, in one pass: of the other linear items those whose bit of the mask is `side`, in order, then a.
+    fn part(self, i: usize, mask: usize, side: usize, a: u16) -> Zones
+        requires { ⌜ Fits self × (i < self .«linear_len») ⌝ }
+        ensures { λ r. ⌜ Made self (split side i mask a) r ⌝ }
     {
-        let n = self.linear_len;
+        let last = self.linear_len - 1;
         let mut z = self;
         let mut m = mask;
         let mut to = 0;
         let mut k = 0;
-        while k < n {
-            let x = z.linear[k];
+        while k < last {
+            let from = k + skipped(i, k);
+            let x = z.linear[from];
             z.linear[to] = x;
             to += chosen(m, side);
             m = m / 2;
             k += 1;
         }
-        z.linear_len = to;
+        z.linear[to] = a;
+        z.linear_len = to + 1;
         z
     }
 
@@ -154,7 +157,7 @@ impl Zones {
         requires { ⌜ Fits self × (i < self .«linear_len») ⌝ }
         ensures { λ r. ⌜ Made self (split 0 i mask a) r ⌝ }
     {
-        self.without(i).kept(mask, 0).pushed(a)
+        self.part(i, mask, 0, a)
     }
 
     // The right premise of a tensor at place i.
@@ -162,6 +165,6 @@ impl Zones {
         requires { ⌜ Fits self × (i < self .«linear_len») ⌝ }
         ensures { λ r. ⌜ Made self (split 1 i mask a) r ⌝ }
     {
-        self.without(i).kept(mask, 1).pushed(a)
+        self.part(i, mask, 1, a)
     }
 }

@@ -1,5 +1,5 @@
 -- `zones::chosen` meets its contract. Assumes nothing.
-use mathlib.Core.Path.{refl, ap, sym}
+use mathlib.Core.Path.{ap, sym}
 use borrow.Author.Tests.{eq-eqb, ne-eqb}
 use Rattle.zones.specs.Zones.{as-number}
 use Rattle.zones.proofs.chosen.Statement.{statement}
