@@ -44,7 +44,7 @@ enum vk_answer {
 
 /* Lengths: the words of a lent memory, the longest question or tree, and the greatest settings of a search. */
 enum {
-    VK_MEMORY_WORDS = 44290,
+    VK_MEMORY_WORDS = 45290,
     VK_MESSAGE_BYTES = 65538,
     VK_MAX_DEPTH = 64,
     VK_MAX_BUDGET = 16384

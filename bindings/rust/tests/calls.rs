@@ -105,7 +105,7 @@ fn failures_stay_until_reset() {
     assert_eq!((said, counters.hits), (Searched::Nothing, 1));
     assert_eq!(
         Memory::from_words(memory.as_words().to_vec()).map(|m| m.as_words().len()),
-        Ok(44_290)
+        Ok(45_290)
     );
     memory.reset();
     tree_of(asked(&[top, par], &[], 0, &mut memory).0);
@@ -127,7 +127,7 @@ fn settings_and_memory_refused() {
     }
     tree_of(prove(64, 16_384).0);
     tree_of(prove(0, 1).0);
-    assert_eq!(Memory::from_words(vec![1; 44_290]).err(), Some(Refusal::WrongMemory));
+    assert_eq!(Memory::from_words(vec![1; 45_290]).err(), Some(Refusal::WrongMemory));
     assert_eq!(Memory::from_words(vec![0; 10]).err(), Some(Refusal::WrongMemory));
 }
 

@@ -2,7 +2,7 @@
 -- leaves every word as it was. Assumes nothing.
 use mathlib.Core.Path.{_≡_, refl, sym, ap, _∙_}
 use mathlib.Core.Bool.{Bool, true, false}
-use mathlib.Core.List.{List, [], _++_, map}
+use mathlib.Core.List.{List, [], _++_, map, map-append}
 use Prim.Native.Nat.{ℕ, _+_, _-_, _≤_, _<_}
 use native.Mathlib.Omega.{arith}
 use native.Mathlib.Nat.{lt-of-lt-of-le}
@@ -17,7 +17,7 @@ use Rattle.held.specs.Words.{count, most, view, told, Wf, Extends}
 use Rattle.held.specs.WordsLaws.{extends-refl, extends-trans, keeps}
 use Rattle.held.specs.EnterLaws.{enter-all-longer}
 use Rattle.held.specs.CutLaws.{cut-back}
-use Rattle.zones.specs.ZonesLaws.{map-append, map-at, below-append}
+use Rattle.zones.specs.ZonesLaws.{map-at, below-append}
 use Rattle.question.specs.Answers.{kind-of}
 use Rattle.question.specs.Found.{Found, Cut}
 use Rattle.question.specs.declared.Places.{Places}

@@ -7,11 +7,12 @@ use Prim.Native.Nat.{ℕ, _+_, _≤_, min}
 use lib.Dec.{eqb}
 use lib.ListN.{length, getD}
 use Rattle.logic.specs.Formula.{Formula, same, size, height}
+use Rattle.logic.specs.Parts.{tag-of}
 use Rattle.logic.specs.Legal.{as-number}
 use Rattle.wire.specs.Write.{write-formula}
 use Rattle.tree.specs.Stands.{Stands}
 use Rattle.tree.specs.Places.{FormulaAt}
-use Rattle.bags.specs.Reading.{read-as, tag-of, named, binary, unary, rest-of, left-how, right-how}
+use Rattle.bags.specs.Reading.{read-as, named, binary, unary, rest-of, left-how, right-how}
 use Rattle.bags.specs.declared.Place.{Place}
 use Rattle.bags.specs.declared.Compared.{Compared}
 use Rattle.bags.specs.declared.Compared.the-variants.{Same, Different}

@@ -9,13 +9,15 @@ use lib.ListN.{length, getD}
 use borrow.Author.Tests.{ne-eqb, eq-eqb}
 use Rattle.logic.specs.Formula.{Formula, same, size, height}
 use Rattle.logic.specs.FormulaLaws.{height-positive}
+use Rattle.logic.specs.Parts.{tag-of}
 use Rattle.logic.specs.Legal.{as-number}
 use Rattle.wire.specs.Write.{two-bytes, write-formula}
 use Rattle.wire.specs.FormulaBytes.{length-write}
 use Rattle.wire.specs.Read.{highest-formula}
 use Rattle.tree.specs.Stands.{Stands}
 use Rattle.tree.specs.StandsLaws.{stands-left, stands-right, stands-head, stands-tail}
-use Rattle.bags.specs.Reading.{read-as, tag-of, Rest, unit, named, binary, unary, rest-of, write-rest, rest-size, rest-height, sign-of, left-how, right-how, rest-as}
+use Rattle.tree.specs.FormulaPlaces.{tag-stands}
+use Rattle.bags.specs.Reading.{read-as, Rest, unit, named, binary, unary, rest-of, write-rest, rest-size, rest-height, sign-of, left-how, right-how, rest-as}
 use Rattle.bags.specs.ReadingLaws.{write-parts, size-parts, height-parts, read-tag, read-rest, read-follows, unit-follows, name-follows, two-follow, one-follows, other-tags, same-units, same-names, same-ones, same-twos}
 use Rattle.bags.specs.Compared.{read-at, compared, SignOf, LeftOf, RightOf, Names, OnePart, TwoParts, TopsAre, Compares, Once}
 use Rattle.bags.specs.declared.Place.{Place}
@@ -27,9 +29,6 @@ use Rattle.bags.specs.declared.Tops.the-variants.{Told, One, Two}
 -- ---- what stands behind a tag
 
 module _ {s : List ℕ} {at : ℕ} (f : Formula) (here : Stands s at (write-formula f)) where
-  pub tag-here : getD s at 0 ≡ tag-of f
-  tag-here = stands-head (rw (write-parts f) at here)
-
   pub ends-inside : at + size f ≤ length s
   ends-inside = omega (arith, here .inside, length-write f)
 
@@ -62,7 +61,7 @@ module _ {s : List ℕ} {at : ℕ} (f : Formula) (here : Stands s at (write-form
 
 module _ (s : List ℕ) (x : Place) where
   pub sign-is : {byte r : ℕ} → byte ≡ getD s (x .at) 0 → r ≡ sign-of byte (x .how) → SignOf s x r
-  sign-is e k = record { is = λ f here. k ∙ ap (λ (t : ℕ). sign-of t (x .how)) (e ∙ tag-here f here) ∙ sym (read-tag (x .how) f) }
+  sign-is e k = record { is = λ f here. k ∙ ap (λ (t : ℕ). sign-of t (x .how)) (e ∙ tag-stands f here) ∙ sym (read-tag (x .how) f) }
 
   pub left-is : {r : Place} {byte : ℕ} → r .at ≡ min (x .at + 1) (length s) → byte ≡ getD s (x .at) 0 → r .how ≡ left-how byte (x .how) → LeftOf s x r
   left-is a b h = record { at-is = a; how-is = h ∙ ap (λ (t : ℕ). left-how t (x .how)) b }
@@ -201,7 +200,7 @@ module _ (s : List ℕ) (z : Place) (f : Formula) (here : Stands s (z .at) (writ
   left-at = left .at-is ∙ omega (arith, ends-inside f here, size-parts f)
 
   left-read : (a : Formula) → read-as (left-how (tag-of f) (z .how)) a ≡ read-at z′ a
-  left-read a = ap (λ h. read-as h a) (sym (left .how-is ∙ ap (λ (n : ℕ). left-how n (z .how)) (tag-here f here)))
+  left-read a = ap (λ h. read-as h a) (sym (left .how-is ∙ ap (λ (n : ℕ). left-how n (z .how)) (tag-stands f here)))
 
   -- the only part, and the left part of two
   one-at : {a : Formula} → rest-of f ≡ unary a → Stands s (z′ .at) (write-formula a) × (z′ .at + size a ≡ z .at + size f)

@@ -3,8 +3,8 @@ use mathlib.Core.Bool.{true, false}
 use mathlib.Core.List.{List, [], _∷_, _++_}
 use Prim.Native.Nat.{ℕ, _+_, _≤_, _<_, max}
 use lib.Dec.{eqb}
-use lib.ListN.{getD}
 use Rattle.logic.specs.Formula.{Formula, One, Bottom, Top, Zero, Atom, NegAtom, Tensor, Par, With, Plus, Lolli, OfCourse, WhyNot, negate, spell, size, height}
+use Rattle.logic.specs.Parts.{negated-tag}
 use Rattle.wire.specs.Write.{two-bytes, write-formula}
 use Rattle.bags.specs.declared.How.{How}
 use Rattle.bags.specs.declared.How.the-variants.{Plain, Spelled, Negated}
@@ -14,22 +14,7 @@ read-as Plain f = f
 read-as Spelled f = spell f
 read-as Negated f = negate f
 
--- document 01's tag of a formula, and what follows it
-unfoldable pub tag-of : Formula → ℕ
-tag-of One = 0
-tag-of Bottom = 1
-tag-of Top = 2
-tag-of Zero = 3
-tag-of (Atom a) = 4
-tag-of (NegAtom a) = 5
-tag-of (Tensor a b) = 6
-tag-of (Par a b) = 7
-tag-of (With a b) = 8
-tag-of (Plus a b) = 9
-tag-of (Lolli a b) = 10
-tag-of (OfCourse a) = 11
-tag-of (WhyNot a) = 12
-
+-- what follows the tag of a formula
 pub data Rest : Type 0 where
   unit : Rest
   named : ℕ → Rest
@@ -56,7 +41,7 @@ abbrev pub Follows : ℕ → Rest → Type 0
 Follows t unit = t < 4
 Follows t (named n) = (4 ≤ t) × (t < 6)
 Follows t (binary a b) = (6 ≤ t) × (t < 11)
-Follows t (unary a) = 11 ≤ t
+Follows t (unary a) = (11 ≤ t) × (t < 13)
 
 unfoldable pub write-rest : Rest → List ℕ
 write-rest unit = []
@@ -75,13 +60,6 @@ rest-height unit = 0
 rest-height (named n) = 0
 rest-height (binary a b) = max (height a) (height b)
 rest-height (unary a) = height a
-
--- the tag of the negation, by the tag
-abbrev pub negated-tags : List ℕ
-negated-tags = 1 ∷ 0 ∷ 3 ∷ 2 ∷ 5 ∷ 4 ∷ 7 ∷ 6 ∷ 9 ∷ 8 ∷ 6 ∷ 12 ∷ 11 ∷ []
-
-unfoldable pub negated-tag : ℕ → ℕ
-negated-tag t = getD negated-tags t 0
 
 -- the tag of a formula read so, by its tag
 unfoldable pub sign-of : ℕ → How → ℕ

@@ -9,8 +9,9 @@ use lib.Dec.{eqb, lit<}
 use lib.ListN.{getD, List·getD-eq-default}
 use Rattle.logic.specs.Formula.{Formula, One, Bottom, Top, Zero, Atom, NegAtom, Tensor, Par, With, Plus, Lolli, OfCourse, WhyNot, negate, spell, size, height, same}
 use Rattle.logic.specs.FormulaLaws.{same-iff, different-same}
+use Rattle.logic.specs.Parts.{tag-of, signs, make, negated-tags, negated-tag}
 use Rattle.wire.specs.Write.{write-formula}
-use Rattle.bags.specs.Reading.{read-as, tag-of, Rest, unit, named, binary, unary, rest-of, Follows, write-rest, rest-size, rest-height, negated-tags, negated-tag, sign-of, left-how, right-how, rest-as}
+use Rattle.bags.specs.Reading.{read-as, Rest, unit, named, binary, unary, rest-of, Follows, write-rest, rest-size, rest-height, sign-of, left-how, right-how, rest-as}
 use Rattle.bags.specs.declared.How.{How}
 use Rattle.bags.specs.declared.How.the-variants.{Plain, Spelled, Negated}
 
@@ -28,67 +29,44 @@ follows (Par a b) = (omega arith, lit< tt)
 follows (With a b) = (omega arith, lit< tt)
 follows (Plus a b) = (omega arith, lit< tt)
 follows (Lolli a b) = (omega arith, lit< tt)
-follows (OfCourse a) = omega arith
-follows (WhyNot a) = omega arith
+follows (OfCourse a) = (omega arith, lit< tt)
+follows (WhyNot a) = (omega arith, lit< tt)
 
 -- bytes, size and height, by the tag and what follows it
+parts-measure : (f : Formula) → (write-formula f ≡ tag-of f ∷ write-rest (rest-of f)) × (size f ≡ suc (rest-size (rest-of f))) × (height f ≡ suc (rest-height (rest-of f)))
+unfolding write-formula size height tag-of rest-of write-rest rest-size rest-height
+parts-measure One = (refl, refl, refl)
+parts-measure Bottom = (refl, refl, refl)
+parts-measure Top = (refl, refl, refl)
+parts-measure Zero = (refl, refl, refl)
+parts-measure (Atom a) = (refl, refl, refl)
+parts-measure (NegAtom a) = (refl, refl, refl)
+parts-measure (Tensor a b) = (refl, refl, refl)
+parts-measure (Par a b) = (refl, refl, refl)
+parts-measure (With a b) = (refl, refl, refl)
+parts-measure (Plus a b) = (refl, refl, refl)
+parts-measure (Lolli a b) = (refl, refl, refl)
+parts-measure (OfCourse a) = (refl, refl, refl)
+parts-measure (WhyNot a) = (refl, refl, refl)
+
 pub write-parts : (f : Formula) → write-formula f ≡ tag-of f ∷ write-rest (rest-of f)
-unfolding write-formula tag-of rest-of write-rest
-write-parts One = refl
-write-parts Bottom = refl
-write-parts Top = refl
-write-parts Zero = refl
-write-parts (Atom a) = refl
-write-parts (NegAtom a) = refl
-write-parts (Tensor a b) = refl
-write-parts (Par a b) = refl
-write-parts (With a b) = refl
-write-parts (Plus a b) = refl
-write-parts (Lolli a b) = refl
-write-parts (OfCourse a) = refl
-write-parts (WhyNot a) = refl
+write-parts f = parts-measure f .0
 
 pub size-parts : (f : Formula) → size f ≡ suc (rest-size (rest-of f))
-unfolding size rest-of rest-size
-size-parts One = refl
-size-parts Bottom = refl
-size-parts Top = refl
-size-parts Zero = refl
-size-parts (Atom a) = refl
-size-parts (NegAtom a) = refl
-size-parts (Tensor a b) = refl
-size-parts (Par a b) = refl
-size-parts (With a b) = refl
-size-parts (Plus a b) = refl
-size-parts (Lolli a b) = refl
-size-parts (OfCourse a) = refl
-size-parts (WhyNot a) = refl
+size-parts f = parts-measure f .1
 
 pub height-parts : (f : Formula) → height f ≡ suc (rest-height (rest-of f))
-unfolding height rest-of rest-height
-height-parts One = refl
-height-parts Bottom = refl
-height-parts Top = refl
-height-parts Zero = refl
-height-parts (Atom a) = refl
-height-parts (NegAtom a) = refl
-height-parts (Tensor a b) = refl
-height-parts (Par a b) = refl
-height-parts (With a b) = refl
-height-parts (Plus a b) = refl
-height-parts (Lolli a b) = refl
-height-parts (OfCourse a) = refl
-height-parts (WhyNot a) = refl
+height-parts f = parts-measure f .2
 
 -- the formula of a tag and what follows it: so the two determine it
 unfoldable formed : ℕ → Rest → Formula
-formed t unit = getD (One ∷ Bottom ∷ Top ∷ []) t Zero
-formed t (named n) = elim (eqb t 4) [ true ↦ Atom n | false ↦ NegAtom n ]
-formed t (binary a b) = getD (One ∷ One ∷ One ∷ One ∷ One ∷ One ∷ Tensor a b ∷ Par a b ∷ With a b ∷ Plus a b ∷ []) t (Lolli a b)
-formed t (unary a) = elim (eqb t 11) [ true ↦ OfCourse a | false ↦ WhyNot a ]
+formed t unit = make t 0 One One
+formed t (named n) = make t n One One
+formed t (binary a b) = make t 0 a b
+formed t (unary a) = make t 0 a One
 
 formed-parts : (f : Formula) → formed (tag-of f) (rest-of f) ≡ f
-unfolding formed tag-of rest-of
+unfolding formed make signs tag-of rest-of
 formed-parts One = refl
 formed-parts Bottom = refl
 formed-parts Top = refl
@@ -103,47 +81,52 @@ formed-parts (Lolli a b) = refl
 formed-parts (OfCourse a) = refl
 formed-parts (WhyNot a) = refl
 
-pub parts-determine : (f g : Formula) → tag-of f ≡ tag-of g → rest-of f ≡ rest-of g → f ≡ g
+pub two-formed : (f : Formula) {a b : Formula} → rest-of f ≡ binary a b → f ≡ make (tag-of f) 0 a b
+unfolding formed
+two-formed f e = sym (formed-parts f) ∙ ap (formed (tag-of f)) e
+
+pub one-formed : (f : Formula) {a : Formula} → rest-of f ≡ unary a → f ≡ make (tag-of f) 0 a One
+unfolding formed
+one-formed f e = sym (formed-parts f) ∙ ap (formed (tag-of f)) e
+
+parts-determine : (f g : Formula) → tag-of f ≡ tag-of g → rest-of f ≡ rest-of g → f ≡ g
 parts-determine f g e r = sym (formed-parts f) ∙ ap₂ formed e r ∙ formed-parts g
 
 -- a formula read another way
-spell-tag : (f : Formula) → tag-of (spell f) ≡ sign-of (tag-of f) Spelled
-unfolding tag-of spell sign-of
-spell-tag One = refl
-spell-tag Bottom = refl
-spell-tag Top = refl
-spell-tag Zero = refl
-spell-tag (Atom a) = refl
-spell-tag (NegAtom a) = refl
-spell-tag (Tensor a b) = refl
-spell-tag (Par a b) = refl
-spell-tag (With a b) = refl
-spell-tag (Plus a b) = refl
-spell-tag (Lolli a b) = refl
-spell-tag (OfCourse a) = refl
-spell-tag (WhyNot a) = refl
+abbrev ReadParts : How → Formula → Type 0
+ReadParts how f = (tag-of (read-as how f) ≡ sign-of (tag-of f) how) × (rest-of (read-as how f) ≡ rest-as how (tag-of f) (rest-of f))
 
-negate-tag : (f : Formula) → tag-of (negate f) ≡ sign-of (tag-of f) Negated
-unfolding tag-of negate sign-of negated-tag
-negate-tag One = refl
-negate-tag Bottom = refl
-negate-tag Top = refl
-negate-tag Zero = refl
-negate-tag (Atom a) = refl
-negate-tag (NegAtom a) = refl
-negate-tag (Tensor a b) = refl
-negate-tag (Par a b) = refl
-negate-tag (With a b) = refl
-negate-tag (Plus a b) = refl
-negate-tag (Lolli a b) = refl
-negate-tag (OfCourse a) = refl
-negate-tag (WhyNot a) = refl
+spelled-parts : (f : Formula) → ReadParts Spelled f
+unfolding tag-of rest-of spell sign-of rest-as read-as left-how right-how
+spelled-parts One = (refl, refl)
+spelled-parts Bottom = (refl, refl)
+spelled-parts Top = (refl, refl)
+spelled-parts Zero = (refl, refl)
+spelled-parts (Atom a) = (refl, refl)
+spelled-parts (NegAtom a) = (refl, refl)
+spelled-parts (Tensor a b) = (refl, refl)
+spelled-parts (Par a b) = (refl, refl)
+spelled-parts (With a b) = (refl, refl)
+spelled-parts (Plus a b) = (refl, refl)
+spelled-parts (Lolli a b) = (refl, refl)
+spelled-parts (OfCourse a) = (refl, refl)
+spelled-parts (WhyNot a) = (refl, refl)
 
-pub read-tag : (how : How) (f : Formula) → tag-of (read-as how f) ≡ sign-of (tag-of f) how
-unfolding read-as sign-of
-read-tag Plain f = refl
-read-tag Spelled f = spell-tag f
-read-tag Negated f = negate-tag f
+negated-parts : (f : Formula) → ReadParts Negated f
+unfolding tag-of rest-of negate sign-of negated-tag rest-as read-as left-how right-how
+negated-parts One = (refl, refl)
+negated-parts Bottom = (refl, refl)
+negated-parts Top = (refl, refl)
+negated-parts Zero = (refl, refl)
+negated-parts (Atom a) = (refl, refl)
+negated-parts (NegAtom a) = (refl, refl)
+negated-parts (Tensor a b) = (refl, refl)
+negated-parts (Par a b) = (refl, refl)
+negated-parts (With a b) = (refl, refl)
+negated-parts (Plus a b) = (refl, refl)
+negated-parts (Lolli a b) = (refl, refl)
+negated-parts (OfCourse a) = (refl, refl)
+negated-parts (WhyNot a) = (refl, refl)
 
 plain-rest : (t : ℕ) (r : Rest) → r ≡ rest-as Plain t r
 unfolding rest-as read-as left-how right-how
@@ -152,43 +135,19 @@ plain-rest t (named n) = refl
 plain-rest t (binary a b) = refl
 plain-rest t (unary a) = refl
 
-spell-rest : (f : Formula) → rest-of (spell f) ≡ rest-as Spelled (tag-of f) (rest-of f)
-unfolding rest-of tag-of spell rest-as read-as left-how right-how
-spell-rest One = refl
-spell-rest Bottom = refl
-spell-rest Top = refl
-spell-rest Zero = refl
-spell-rest (Atom a) = refl
-spell-rest (NegAtom a) = refl
-spell-rest (Tensor a b) = refl
-spell-rest (Par a b) = refl
-spell-rest (With a b) = refl
-spell-rest (Plus a b) = refl
-spell-rest (Lolli a b) = refl
-spell-rest (OfCourse a) = refl
-spell-rest (WhyNot a) = refl
+plain-parts : (f : Formula) → ReadParts Plain f
+unfolding read-as sign-of
+plain-parts f = (refl, plain-rest (tag-of f) (rest-of f))
 
-negate-rest : (f : Formula) → rest-of (negate f) ≡ rest-as Negated (tag-of f) (rest-of f)
-unfolding rest-of tag-of negate rest-as read-as left-how right-how
-negate-rest One = refl
-negate-rest Bottom = refl
-negate-rest Top = refl
-negate-rest Zero = refl
-negate-rest (Atom a) = refl
-negate-rest (NegAtom a) = refl
-negate-rest (Tensor a b) = refl
-negate-rest (Par a b) = refl
-negate-rest (With a b) = refl
-negate-rest (Plus a b) = refl
-negate-rest (Lolli a b) = refl
-negate-rest (OfCourse a) = refl
-negate-rest (WhyNot a) = refl
+pub read-tag : (how : How) (f : Formula) → tag-of (read-as how f) ≡ sign-of (tag-of f) how
+read-tag Plain f = plain-parts f .0
+read-tag Spelled f = spelled-parts f .0
+read-tag Negated f = negated-parts f .0
 
 pub read-rest : (how : How) (f : Formula) → rest-of (read-as how f) ≡ rest-as how (tag-of f) (rest-of f)
-unfolding read-as
-read-rest Plain f = plain-rest (tag-of f) (rest-of f)
-read-rest Spelled f = spell-rest f
-read-rest Negated f = negate-rest f
+read-rest Plain f = plain-parts f .1
+read-rest Spelled f = spelled-parts f .1
+read-rest Negated f = negated-parts f .1
 
 pub negated-beyond : (t : ℕ) → 12 < t → 0 ≡ negated-tag t
 unfolding negated-tag

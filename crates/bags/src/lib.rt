@@ -2,7 +2,8 @@
 ghost use mathlib.Core.Path.{_≡_};
 ghost use Prim.Native.Nat.{_≤_};
 ghost use lib.ListN.{length};
-ghost use Rattle.bags.specs.Reading.{negated-tag, sign-of, left-how, right-how};
+ghost use Rattle.logic.specs.Parts.{negated-tag};
+ghost use Rattle.bags.specs.Reading.{sign-of, left-how, right-how};
 ghost use Rattle.bags.specs.Compared.{SignOf, LeftOf, RightOf, Names, TopsAre, Compares, Once};
 ghost use Rattle.bags.specs.Runs.{Short, RunWithin, BagWithin, Counts, CountsIn, Agrees, Long, LongIn, BagsSame, OneRun, TwoRuns, ThreeRuns};
 use tree::HIGHEST_FORMULA;

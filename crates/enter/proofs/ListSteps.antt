@@ -7,7 +7,7 @@ use native.Mathlib.Omega.{arith}
 use native.Mathlib.Nat.{lt-of-lt-of-le, le-trans, le-of-suc-le-suc, eq-or-lt-of-le}
 use native.Mathlib.Numerals.{add-one}
 use lib.ListN.{getD, length, take, drop, set, length-set, drop-of-length-le, length-append, length-take, length-drop, take-append-drop, length-map, List·getD-map}
-use lib.Seq.{slice, length-slice, slice-empty, take-suc, drop-cons, drop-drop, drop-at, drop-append-le, length-take-le, take-all, getD-take, getD-set-same, getD-set-other}
+use lib.Seq.{slice, length-slice, slice-empty, take-suc, drop-cons, drop-drop, drop-at, length-take-le, take-all, getD-take, getD-set-same, getD-set-other}
 use Rattle.logic.specs.Formula.{Formula, One, negate, height, size}
 use Rattle.logic.specs.FormulaLaws.{size-positive}
 use Rattle.logic.specs.Held.{enter, enter-all}
@@ -15,17 +15,15 @@ use Rattle.wire.specs.Write.{write-formula, write-formulas}
 use Rattle.wire.specs.Read.{got, read-all}
 use Rattle.wire.specs.Fits.{FormulasFit, FormulaFits, ZoneFits}
 use Rattle.wire.specs.FormulaBytes.{length-write}
-use Rattle.wire.specs.ZoneBytes.{length-write-formulas}
+use Rattle.wire.specs.ZoneBytes.{length-write-formulas, drop-split}
 use Rattle.formula.specs.Signs.{Stands}
 use Rattle.held.specs.EnterLaws.{enter-longer, enter-all-longer}
 use Rattle.held.specs.Words.{count, most, view, told, Wf, Extends}
 use Rattle.held.specs.WordsLaws.{extends-refl, extends-trans, keeps}
-use Rattle.held.specs.Turn.{Entered, Over, Refused, EnteredOr}
+use Rattle.held.specs.Turn.{Entered, Refused}
 use Rattle.held.specs.OrderLaws.{le-or-lt, eq-or-not}
 use Rattle.enter.specs.Standing.{Enterable, EnteredFrom}
 use Rattle.enter.specs.Lists.{Names, Zone, Zoned, EnteredAll, OverAll, ListedAll, Negatable, named, NegatedAll}
-use Rattle.held.specs.declared.Added.{Added}
-use Rattle.held.specs.declared.Added.the-variants as added
 use Rattle.enter.specs.declared.Entry.the-variants as entry
 
 -- ---- lists entered one after another
@@ -68,10 +66,6 @@ names-more m numbers from n fs i z room l e = record { low = λ j u. low j (eq-o
     here j (inr q) = rw (getD-set-other numbers (from + n) (from + j) i 0 (λ e. omega arith)) (z .here j q)
 
 -- ---- the formulas of a zone
-
-drop-split : (s : List ℕ) (p end : ℕ) → p ≤ end → end ≤ length s → drop p s ≡ slice p end s ++ drop end s
-drop-split s p end h inside =
-    ap (drop p) (sym (take-append-drop end s)) ∙ drop-append-le p (take end s) (drop end s) (omega (arith, length-take-le end s inside))
 
 -- each formula of a list that fits, fits
 fits-at : (fs : List Formula) (n : ℕ) → FormulasFit fs → n < length fs → height (getD fs n One) ≤ 64
@@ -322,11 +316,3 @@ turning-ends m₀ numbers₀ n m numbers k w l =
       long = w .long;
       kept = λ j u. w .kept j (omega arith);
     }
-
--- ---- the cases of an answer
-
-pub entered-number : (m : List ℕ) (f : Formula) (r : Added) (i : ℕ) (m' : List ℕ) → EnteredOr m f r m' → r ≡ added.At i → Entered m f i m'
-entered-number m f r i m' y e = rw e at y
-
-pub entered-none : (m : List ℕ) (f : Formula) (r : Added) (m' : List ℕ) → EnteredOr m f r m' → r ≡ added.Full → Refused m f m'
-entered-none m f r m' y e = rw e at y

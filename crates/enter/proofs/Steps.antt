@@ -10,8 +10,9 @@ use Rattle.logic.specs.Formula.{Formula, One, height, size}
 use Rattle.logic.specs.Held.{add, enter}
 use Rattle.formula.specs.Signs.{Stands}
 use Rattle.formula.specs.SignsLaws.{starts-inside}
-use Rattle.held.specs.Signs.{make, node}
-use Rattle.held.specs.SignsLaws.{node-make, make-mid-height, make-high-height}
+use Rattle.logic.specs.PartsLaws.{height-binary, height-unary}
+use Rattle.held.specs.Signs.{node}
+use Rattle.held.specs.SignsLaws.{node-make}
 use Rattle.held.specs.EnterLaws.{enter-longer}
 use Rattle.held.specs.Words.{count, view, told, Wf, Extends}
 use Rattle.held.specs.WordsLaws.{extends-refl, extends-trans, keeps}
@@ -60,7 +61,7 @@ module _ (m s : List ℕ) (at : ℕ) (z : Enterable m s at) where
           wf = z .wf;
           formula = u .part;
           stands = u .stands;
-          tall = omega (arith, z .tall, ap height (sym (u .made 0 One)) ∙ make-high-height 0 (u .part) One t (u .low) (u .high));
+          tall = omega (arith, z .tall, ap height (sym (u .made 0 One)) ∙ height-unary 0 (u .part) One t (u .low) (u .high));
           wide = omega (arith, z .wide, u .wide);
         }
 
@@ -98,7 +99,7 @@ module _ (m s : List ℕ) (at : ℕ) (z : Enterable m s at) where
     whole-pair = g (z .formula) (z .stands)
 
     two-tall : height (z .formula) ≡ suc (max (height (whole-pair .left)) (height (whole-pair .right)))
-    two-tall = let u = whole-pair in ap height (sym (u .made 0)) ∙ make-mid-height 0 (u .left) (u .right) t (u .low) (u .high)
+    two-tall = let u = whole-pair in ap height (sym (u .made 0)) ∙ height-binary 0 (u .left) (u .right) t (u .low) (u .high)
 
     pub two-ready : Enterable m s (at + 1)
     two-ready = let u = whole-pair in record { wf = z .wf; formula = u .left; stands = u .first; tall = omega (arith, z .tall, two-tall); wide = omega (arith, z .wide, u .wide) }

@@ -5,7 +5,8 @@ use mathlib.Core.List.{List}
 use Prim.Native.Nat.{ℕ, _+_, _≤_, _<_}
 use Rattle.logic.specs.Formula.{Formula, height, size}
 use Rattle.formula.specs.Signs.{Stands}
-use Rattle.held.specs.Signs.{make, node}
+use Rattle.logic.specs.Parts.{make}
+use Rattle.held.specs.Signs.{node}
 use Rattle.held.specs.Words.{view, Wf}
 use Rattle.held.specs.Answers.{Stored, NoRoom}
 use Rattle.held.specs.Turn.{Entered, Over}

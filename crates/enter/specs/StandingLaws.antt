@@ -13,7 +13,7 @@ use Rattle.formula.specs.Reading.{form-of}
 use Rattle.formula.specs.Signs.{Stands}
 use Rattle.formula.specs.SignsLaws.{all-at, shaped}
 use Rattle.formula.specs.declared.Form.the-variants.{Unit, Named, Binary, Unary, Unknown}
-use Rattle.held.specs.Signs as held
+use Rattle.logic.specs.Parts as parts
 use Rattle.held.specs.Answers.{Stored, NoRoom, AddedTo}
 use Rattle.held.specs.declared.Added.{Added}
 use Rattle.held.specs.declared.Added.the-variants as added
@@ -22,13 +22,13 @@ use Rattle.enter.specs.declared.Sign.the-variants as sign
 
 -- document 01's table of tags is the one that the held formulas are made by
 abbrev Makes : ℕ → Sign → Type 0
-Makes t (unit f) = (t < 4) × ((n : ℕ) (x y : Formula) → held.make t n x y ≡ f)
-Makes t (named make) = ((4 ≤ t) × (t < 6)) × ((n : ℕ) (x y : Formula) → held.make t n x y ≡ make n)
-Makes t (binary make) = ((6 ≤ t) × (t < 11)) × ((n : ℕ) (x y : Formula) → held.make t n x y ≡ make x y)
-Makes t (unary make) = ((11 ≤ t) × (t < 13)) × ((n : ℕ) (x y : Formula) → held.make t n x y ≡ make x)
+Makes t (unit f) = (t < 4) × ((n : ℕ) (x y : Formula) → parts.make t n x y ≡ f)
+Makes t (named make) = ((4 ≤ t) × (t < 6)) × ((n : ℕ) (x y : Formula) → parts.make t n x y ≡ make n)
+Makes t (binary make) = ((6 ≤ t) × (t < 11)) × ((n : ℕ) (x y : Formula) → parts.make t n x y ≡ make x y)
+Makes t (unary make) = ((11 ≤ t) × (t < 13)) × ((n : ℕ) (x y : Formula) → parts.make t n x y ≡ make x)
 
 signs-make : AllAt Makes signs
-unfolding held.make held.signs
+unfolding parts.make parts.signs
 signs-make =
     (omega arith, λ n x y. refl)
     & (omega arith, λ n x y. refl)

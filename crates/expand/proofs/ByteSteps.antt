@@ -1,7 +1,7 @@
 -- Bytes written one after another, and the bytes of a held formula by its tag. Assumes nothing.
 use mathlib.Core.Path.{_≡_, refl, sym, ap, _∙_}
 use mathlib.Core.Logic.{_⊎_, ⊎-elim}
-use mathlib.Core.List.{List, [], _∷_, _++_, map, append-assoc, append-nil}
+use mathlib.Core.List.{List, [], _∷_, _++_, map, map-append}
 use Prim.Native.Nat.{ℕ, _+_, _≤_, _<_}
 use native.Mathlib.Numerals.{add-one}
 use native.Mathlib.Omega.{arith}
@@ -9,16 +9,18 @@ use lib.ListN.{getD, set, length, take, drop, take-append-drop, length-append, l
 use lib.Seq.{length-sets, take-suc, take-take, length-take-le, getD-take}
 use Rattle.logic.specs.Formula.{Formula, size}
 use Rattle.logic.specs.FormulaLaws.{size-positive}
+use Rattle.logic.specs.Parts.{tag-of, left-part, right-part, signs, make}
+use Rattle.logic.specs.PartsLaws.{unit-tags, name-tags, binary-tags, unary-tags, tag-make, left-make, right-make}
 use Rattle.wire.specs.Write.{two-bytes, write-formula, write-formulas, write-zone}
 use Rattle.wire.specs.FormulaBytes.{length-write}
+use Rattle.wire.specs.ZoneBytes.{write-formulas-append, write-formulas-one, length-write-zone}
 use Rattle.formula.specs.RewritingLaws.{sets-append}
-use Rattle.held.specs.Signs.{signs, make}
-use Rattle.held.specs.SignsLaws.{low, mid, high, node-make}
+use Rattle.held.specs.SignsLaws.{node-make}
 use Rattle.held.specs.Words.{at, count, view, told, Row, unit, name, two, one, Wf}
 use Rattle.held.specs.Answers.{Field}
 use Rattle.held.specs.OrderLaws.{le-or-lt}
 use Rattle.held.specs.WordsLaws.{held-node, row-low, weights}
-use Rattle.zones.specs.ZonesLaws.{map-append}
+use Rattle.held.proofs.RowSteps.{row-left, row-right}
 use Rattle.expand.specs.Writing.{Wrote, Formula-room, Items, Items-room, Zone-room, Weighs, named}
 
 -- one run of bytes after another
@@ -42,43 +44,21 @@ wrote-as w e = rw e at w
 
 -- what a tag is followed by
 module _ (n : ℕ) (x y : Formula) where
-  write-unit : (t : ℕ) → t < 6 → t < 4 → write-formula (make t n x y) ≡ t ∷ []
+  write-unit : (t : ℕ) → t < 4 → write-formula (make t n x y) ≡ t ∷ []
   unfolding make signs write-formula
-  write-unit = low (λ t. t < 4 → write-formula (make t n x y) ≡ t ∷ []) (λ l. refl) (λ l. refl) (λ l. refl) (λ l. refl) (λ l. absurd (omega arith)) (λ l. absurd (omega arith))
+  write-unit = unit-tags (λ t. write-formula (make t n x y) ≡ t ∷ []) refl refl refl refl
 
-  write-name : (t : ℕ) → t < 6 → 4 ≤ t → write-formula (make t n x y) ≡ t ∷ two-bytes n
+  write-name : (t : ℕ) → 4 ≤ t → t < 6 → write-formula (make t n x y) ≡ t ∷ two-bytes n
   unfolding make signs write-formula
-  write-name =
-      low
-      (λ t. 4 ≤ t → write-formula (make t n x y) ≡ t ∷ two-bytes n)
-      (λ l. absurd (omega arith))
-      (λ l. absurd (omega arith))
-      (λ l. absurd (omega arith))
-      (λ l. absurd (omega arith))
-      (λ l. refl)
-      (λ l. refl)
+  write-name = name-tags (λ t. write-formula (make t n x y) ≡ t ∷ two-bytes n) refl refl
 
   write-mid : (t : ℕ) → 6 ≤ t → t < 11 → write-formula (make t n x y) ≡ t ∷ (write-formula x ++ write-formula y)
   unfolding make signs write-formula
-  write-mid = mid (λ t. write-formula (make t n x y) ≡ t ∷ (write-formula x ++ write-formula y)) refl refl refl refl refl
+  write-mid = binary-tags (λ t. write-formula (make t n x y) ≡ t ∷ (write-formula x ++ write-formula y)) refl refl refl refl refl
 
   write-high : (t : ℕ) → 11 ≤ t → t < 13 → write-formula (make t n x y) ≡ t ∷ write-formula x
   unfolding make signs write-formula
-  write-high = high (λ t. write-formula (make t n x y) ≡ t ∷ write-formula x) refl refl
-
--- the parts of a row
-module _ {m : List ℕ} {n t a b h s : ℕ} where
-  row-left : Row m n t a b h s → 6 ≤ t → a < n
-  row-left (unit k _ _ _ _) g = absurd (omega arith)
-  row-left (name _ k _ _ _ _) g = absurd (omega arith)
-  row-left (two _ _ k _ _ _ _ _) g = k
-  row-left (one _ _ k _ _ _ _ _) g = k
-
-  row-right : Row m n t a b h s → 6 ≤ t → t < 11 → b < n
-  row-right (unit k _ _ _ _) g l = absurd (omega arith)
-  row-right (name _ k _ _ _ _) g l = absurd (omega arith)
-  row-right (two _ _ _ k _ _ _ _) g l = k
-  row-right (one k _ _ _ _ _ _ _) g l = absurd (omega arith)
+  write-high = unary-tags (λ t. write-formula (make t n x y) ≡ t ∷ write-formula x) refl refl
 
 module _ (m : List ℕ) (x : ℕ) (wf : Wf m) (l : x < count m) where
   pub told-make : told m x ≡ make (at m x 0) (at m x 1) (told m (at m x 1)) (told m (at m x 2))
@@ -87,6 +67,15 @@ module _ (m : List ℕ) (x : ℕ) (wf : Wf m) (l : x < count m) where
   pub tag-low : at m x 0 < 13
   tag-low = row-low (wf .formulas .rows x l)
 
+  pub told-tag : tag-of (told m x) ≡ at m x 0
+  told-tag = ap tag-of told-make ∙ tag-make _ _ _ (at m x 0) tag-low
+
+  pub told-left : 6 ≤ at m x 0 → left-part (told m x) ≡ told m (at m x 1)
+  told-left h = ap left-part told-make ∙ left-make _ _ _ (at m x 0) h tag-low
+
+  pub told-right : 6 ≤ at m x 0 → at m x 0 < 11 → right-part (told m x) ≡ told m (at m x 2)
+  told-right h k = ap right-part told-make ∙ right-make _ _ _ (at m x 0) h k
+
   pub part-left : 6 ≤ at m x 0 → at m x 1 < x
   part-left = row-left (wf .formulas .rows x l)
 
@@ -94,10 +83,10 @@ module _ (m : List ℕ) (x : ℕ) (wf : Wf m) (l : x < count m) where
   part-right = row-right (wf .formulas .rows x l)
 
   bytes-unit : at m x 0 < 4 → write-formula (told m x) ≡ at m x 0 ∷ []
-  bytes-unit h = ap write-formula told-make ∙ write-unit _ _ _ (at m x 0) (omega arith) h
+  bytes-unit h = ap write-formula told-make ∙ write-unit _ _ _ (at m x 0) h
 
   bytes-name : 4 ≤ at m x 0 → at m x 0 < 6 → write-formula (told m x) ≡ at m x 0 ∷ two-bytes (at m x 1)
-  bytes-name h k = ap write-formula told-make ∙ write-name _ _ _ (at m x 0) k h
+  bytes-name h k = ap write-formula told-make ∙ write-name _ _ _ (at m x 0) h k
 
   bytes-two : 6 ≤ at m x 0 → at m x 0 < 11 → write-formula (told m x) ≡ at m x 0 ∷ (write-formula (told m (at m x 1)) ++ write-formula (told m (at m x 2)))
   bytes-two h k = ap write-formula told-make ∙ write-mid _ _ _ (at m x 0) h k
@@ -186,15 +175,6 @@ module _ {m : List ℕ} {x : ℕ} {out : List ℕ} {to : ℕ} (p : Formula-room 
     formula-one h = wrote-as (wrote-then (wrote-one out to t) w) (sym (parts-one h))
 
 -- formulas one after another
-write-append : (fs gs : List Formula) → write-formulas (fs ++ gs) ≡ write-formulas fs ++ write-formulas gs
-unfolding write-formulas
-write-append [] gs = refl
-write-append (f ∷ fs) gs = rw (write-append fs gs) (sym (append-assoc (write-formula f) (write-formulas fs) (write-formulas gs)))
-
-write-single : (f : Formula) → write-formulas (f ∷ []) ≡ write-formula f
-unfolding write-formulas
-write-single f = append-nil (write-formula f)
-
 module _ {m items : List ℕ} {n : ℕ} (g : Items m items n) where
   -- the item at place k
   pub item-low : (k : ℕ) → k < n → getD items k 0 < count m
@@ -208,8 +188,8 @@ module _ {m items : List ℕ} {n : ℕ} (g : Items m items n) where
   bytes-next : (k : ℕ) → k < n → write-formulas (named m items (k + 1)) ≡ write-formulas (named m items k) ++ write-formula (told m (getD items k 0))
   bytes-next k h =
       ap write-formulas (named-next k h)
-      ∙ write-append (named m items k) (told m (getD items k 0) ∷ [])
-      ∙ ap (λ (l : List ℕ). write-formulas (named m items k) ++ l) (write-single (told m (getD items k 0)))
+      ∙ write-formulas-append (named m items k) (told m (getD items k 0) ∷ [])
+      ∙ ap (λ (l : List ℕ). write-formulas (named m items k) ++ l) (write-formulas-one (told m (getD items k 0)))
 
   bytes-prefix : (k : ℕ) → k ≤ n → length (write-formulas (named m items k)) ≤ length (write-formulas (named m items n))
   bytes-prefix k h =
@@ -218,7 +198,7 @@ module _ {m items : List ℕ} {n : ℕ} (g : Items m items n) where
       ∙ map-append (told m) (take k items) (drop k (take n items)) in
       omega (
         arith,
-        ap length (ap write-formulas split ∙ write-append (named m items k) (map (told m) (drop k (take n items)))),
+        ap length (ap write-formulas split ∙ write-formulas-append (named m items k) (map (told m) (drop k (take n items)))),
         length-append (write-formulas (named m items k)) (write-formulas (map (told m) (drop k (take n items)))),
       )
 
@@ -280,16 +260,12 @@ module _ {m items : List ℕ} {n : ℕ} (g : Items m items n) where
 
 -- a zone: its length, and its formulas
 module _ {m items : List ℕ} {n : ℕ} {out : List ℕ} {to : ℕ} (z : Zone-room m items n out to) where
-  zone-length : length (write-zone (named m items n)) ≡ 2 + length (write-formulas (named m items n))
-  unfolding write-zone
-  zone-length = length-append (two-bytes (length (write-formulas (named m items n)))) (write-formulas (named m items n))
-
   pub length-room : {r : ℕ} → Weighs m items n r → (r < 65536) × (to + 2 ≤ length out)
-  length-room w = (omega (arith, w .bytes, z .short), omega (arith, z .room, zone-length))
+  length-room w = (omega (arith, w .bytes, z .short), omega (arith, z .room, length-write-zone (named m items n)))
 
   module _ {r : ℕ} (w : Weighs m items n r) {out₁ : List ℕ} {n₁ : ℕ} (v : Wrote out to (two-bytes r) out₁ n₁) where
     pub zone-items : Items-room m items n out₁ n₁
-    zone-items = record { good = z .good; room = omega (arith, z .room, zone-length, v .after, wrote-length v) }
+    zone-items = record { good = z .good; room = omega (arith, z .room, length-write-zone (named m items n), v .after, wrote-length v) }
 
     pub zone-wrote : {out₂ : List ℕ} {n₂ : ℕ} → Wrote out₁ n₁ (write-formulas (named m items n)) out₂ n₂ → Wrote out to (write-zone (named m items n)) out₂ n₂
     unfolding write-zone

@@ -9,18 +9,34 @@ use lib.ListN.{getD, set, length, length-set}
 use lib.Seq.{getD-set-same, getD-set-other}
 use Rattle.logic.specs.Formula.{Formula, negate, height, size}
 use Rattle.logic.specs.FormulaLaws.{negate-height, negate-size}
-use Rattle.held.specs.Signs.{signs, make, node, dualOf}
-use Rattle.held.specs.SignsLaws.{mid, high, tagOf, leftOf, rightOf, node-make, negate-low, negate-mid, negate-lolli, negate-high, dual-unit, dual-name, dual-two, dual-one, make-any, make-high-any}
-use Rattle.held.specs.Words.{at, count, most, view, told, Row, unit, name, two, one, Wf}
+use Rattle.logic.specs.Parts.{tag-of, left-part, right-part, make}
+use Rattle.logic.specs.PartsLaws.{
+  make-binary,
+  make-unary,
+  tag-make,
+  left-make,
+  right-make,
+  negate-leaf,
+  negate-binary,
+  negate-make-lolli,
+  negate-unary,
+  negated-binary,
+  negated-unary,
+}
+use Rattle.held.specs.Signs.{node, dualOf}
+use Rattle.held.specs.SignsLaws.{node-make}
+use Rattle.held.specs.Words.{at, count, most, view, told, Row, two, one, Wf}
 use Rattle.held.specs.OrderLaws.{le-or-lt}
 use Rattle.held.specs.WordsLaws.{weights, number-once, tag-node}
 use Rattle.held.specs.Answers.{Field, Next, NumberOf}
 use Rattle.held.specs.declared.Found.{Found}
 use Rattle.held.specs.declared.Found.the-variants as found
+use Rattle.held.proofs.RowSteps.{row-tall, row-wide, row-tall-one, row-wide-one}
+use Rattle.held.proofs.TurnSteps.{leaf-row}
 use Rattle.held.proofs.Found.{the-type as found-type}
 use denote.Enum.Declared.{tagOf as variant}
 use Rattle.expand.specs.Negations.{Noted, Table, Above, Negated}
-use Rattle.expand.proofs.ByteSteps.{told-make, tag-low, part-left, part-right}
+use Rattle.expand.proofs.ByteSteps.{told-make, told-tag, told-left, told-right, tag-low, part-left, part-right}
 
 -- what a look-up answers
 noted-at : {m : List ℕ} {f : Formula} {i : ℕ} → Wf m → (i < count m) × (told m i ≡ f) → Noted m f (i + 1)
@@ -50,57 +66,27 @@ noted-some : {m : List ℕ} {f : Formula} {r : ℕ} → Noted m f r → (r ≡ 0
 noted-some {r} n h = n .sound (r - 1) (omega arith)
 
 -- the parts of a formula that is held
-module _ (n : ℕ) (u v : Formula) where
-  make-tag-mid : (t : ℕ) → 6 ≤ t → t < 11 → tagOf (make t n u v) ≡ t
-  unfolding make signs tagOf
-  make-tag-mid = mid (λ t. tagOf (make t n u v) ≡ t) refl refl refl refl refl
+module _ (m : List ℕ) (wf : Wf m) {y : ℕ} (l : y < count m) (t n : ℕ) (u v : Formula) (e : told m y ≡ make t n u v) where
+  tag-is : t < 13 → at m y 0 ≡ t
+  tag-is h = sym (told-tag m y wf l) ∙ ap tag-of e ∙ tag-make n u v t h
 
-  make-tag-high : (t : ℕ) → 11 ≤ t → t < 13 → tagOf (make t n u v) ≡ t
-  unfolding make signs tagOf
-  make-tag-high = high (λ t. tagOf (make t n u v) ≡ t) refl refl
+  left-of : 6 ≤ t → t < 13 → (at m y 1 < count m) × (told m (at m y 1) ≡ u)
+  left-of h k =
+      let g : 6 ≤ at m y 0 = omega (arith, tag-is k) in
+      (omega (arith, part-left m y wf l g), sym (told-left m y wf l g) ∙ ap left-part e ∙ left-make n u v t h k)
 
-  make-left-mid : (t : ℕ) → 6 ≤ t → t < 11 → leftOf (make t n u v) ≡ u
-  unfolding make signs leftOf
-  make-left-mid = mid (λ t. leftOf (make t n u v) ≡ u) refl refl refl refl refl
+  right-of : 6 ≤ t → t < 11 → (at m y 2 < count m) × (told m (at m y 2) ≡ v)
+  right-of h k =
+      let tag = tag-is (omega arith) in
+      let g : 6 ≤ at m y 0 = omega arith in
+      let g′ : at m y 0 < 11 = omega arith in
+      (omega (arith, part-right m y wf l g g′), sym (told-right m y wf l g g′) ∙ ap right-part e ∙ right-make n u v t h k)
 
-  make-left-high : (t : ℕ) → 11 ≤ t → t < 13 → leftOf (make t n u v) ≡ u
-  unfolding make signs leftOf
-  make-left-high = high (λ t. leftOf (make t n u v) ≡ u) refl refl
+  pub part-of-mid : 6 ≤ t → t < 11 → ((at m y 1 < count m) × (told m (at m y 1) ≡ u)) × ((at m y 2 < count m) × (told m (at m y 2) ≡ v))
+  part-of-mid h k = (left-of h (omega arith), right-of h k)
 
-  make-right-mid : (t : ℕ) → 6 ≤ t → t < 11 → rightOf (make t n u v) ≡ v
-  unfolding make signs rightOf
-  make-right-mid = mid (λ t. rightOf (make t n u v) ≡ v) refl refl refl refl refl
-
-module _ (m : List ℕ) (wf : Wf m) {y : ℕ} (l : y < count m) where
-  pub told-tag : tagOf (told m y) ≡ at m y 0
-  told-tag = ap tagOf (told-make m y wf l) ∙ ap tagOf (sym (node-make _ _ _ (view m))) ∙ tag-node (at m y 0) (at m y 1) (at m y 2) (view m) (tag-low m y wf l)
-
-  module _ (t n : ℕ) (u v : Formula) (e : told m y ≡ make t n u v) where
-    pub part-of-mid : 6 ≤ t → t < 11 → ((at m y 1 < count m) × (told m (at m y 1) ≡ u)) × ((at m y 2 < count m) × (told m (at m y 2) ≡ v))
-    part-of-mid h k =
-        let tag : at m y 0 ≡ t = sym told-tag ∙ ap tagOf e ∙ make-tag-mid n u v t h k in
-        let b = told-make m y wf l in
-        let h′ : 6 ≤ at m y 0 = omega arith in
-        let k′ : at m y 0 < 11 = omega arith in (
-          (
-            omega (arith, part-left m y wf l h′),
-            sym (make-left-mid (at m y 1) (told m (at m y 1)) (told m (at m y 2)) (at m y 0) h′ k′) ∙ ap leftOf (sym b ∙ e) ∙ make-left-mid n u v t h k,
-          ),
-          (
-            omega (arith, part-right m y wf l h′ k′),
-            sym (make-right-mid (at m y 1) (told m (at m y 1)) (told m (at m y 2)) (at m y 0) h′ k′) ∙ ap rightOf (sym b ∙ e) ∙ make-right-mid n u v t h k,
-          ),
-        )
-
-    part-of-high : 11 ≤ t → t < 13 → (at m y 1 < count m) × (told m (at m y 1) ≡ u)
-    part-of-high h k =
-        let tag : at m y 0 ≡ t = sym told-tag ∙ ap tagOf e ∙ make-tag-high n u v t h k in
-        let b = told-make m y wf l in
-        let h′ : 11 ≤ at m y 0 = omega arith in
-        let k′ : at m y 0 < 13 = omega arith in (
-          omega (arith, part-left m y wf l (omega arith)),
-          sym (make-left-high (at m y 1) (told m (at m y 1)) (told m (at m y 2)) (at m y 0) h′ k′) ∙ ap leftOf (sym b ∙ e) ∙ make-left-high n u v t h k,
-        )
+  part-of-high : 11 ≤ t → t < 13 → (at m y 1 < count m) × (told m (at m y 1) ≡ u)
+  part-of-high h k = left-of (omega arith) k
 
 -- a formula and its negation are as high and as long
 same-weight : (m : List ℕ) → Wf m → {y k : ℕ} → y < count m → k < count m → told m y ≡ negate (told m k) → (at m y 3 ≡ at m k 3) × (at m y 4 ≡ at m k 4)
@@ -108,26 +94,6 @@ same-weight m wf {y} {k} l u e =
     let wy = weights m (count m) (wf .formulas) y l in
     let wk = weights m (count m) (wf .formulas) k u in
     (sym (wy .0) ∙ ap height e ∙ negate-height (told m k) ∙ wk .0, sym (wy .1) ∙ ap size e ∙ negate-size (told m k) ∙ wk .1)
-
--- the weight of a row's parts
-module _ {m : List ℕ} {n t a b h s : ℕ} where
-  row-two : Row m n t a b h s → 6 ≤ t → t < 11 → (1 + max (at m a 3) (at m b 3) ≤ 64) × (1 + at m a 4 + at m b 4 < 65536)
-  row-two (unit k _ _ _ _) g l = absurd (omega arith)
-  row-two (name _ k _ _ _ _) g l = absurd (omega arith)
-  row-two (two _ _ _ _ eh es lh ls) g l = (rw eh at lh, rw es at ls)
-  row-two (one k _ _ _ _ _ _ _) g l = absurd (omega arith)
-
-  row-one : Row m n t a b h s → 11 ≤ t → (1 + at m a 3 ≤ 64) × (1 + at m a 4 < 65536)
-  row-one (unit k _ _ _ _) g = absurd (omega arith)
-  row-one (name _ k _ _ _ _) g = absurd (omega arith)
-  row-one (two _ k _ _ _ _ _ _) g = absurd (omega arith)
-  row-one (one _ _ _ _ eh es lh ls) g = (rw eh at lh, rw es at ls)
-
-  row-leaf : Row m n t a b h s → t < 6 → Row m (count m) (dualOf t) a 0 h s
-  row-leaf (unit k ea eb eh es) l = unit (dual-unit t k) ea refl eh es
-  row-leaf (name g k la eb eh es) l = let d = dual-name t g k in name (d .0) (d .1) la refl eh es
-  row-leaf (two g _ _ _ _ _ _ _) l = absurd (omega arith)
-  row-leaf (one g _ _ _ _ _ _ _) l = absurd (omega arith)
 
 -- `negation`, with the tag and the two fields read
 module _ {m table : List ℕ} {x : ℕ} (p : Table m table x × (x < count m)) {t a b : ℕ} (ft : Field m x 0 t) (fa : Field m x 1 a) (fb : Field m x 2 b) where
@@ -141,14 +107,14 @@ module _ {m table : List ℕ} {x : ℕ} (p : Table m table x × (x < count m)) {
   negation-tag = omega (arith, ft .value, tag-low m x (p .0 .wf) (p .1))
 
   pub leaf-next : {d : ℕ} → t < 6 → d ≡ dualOf t → Next m d a 0
-  leaf-next h e = rw e record { wf = p .0 .wf; tall = at m x 3; wide = at m x 4; row = row-leaf row h }
+  leaf-next h e = rw e record { wf = p .0 .wf; tall = at m x 3; wide = at m x 4; row = leaf-row (count m) row h }
 
   pub leaf-noted : {d r : ℕ} → t < 6 → d ≡ dualOf t → Noted m (node d a 0 (view m)) r → Noted m (negate (told m x)) r
   leaf-noted {d} h e =
       noted-as
       (ap (λ (k : ℕ). node k a 0 (view m)) e
       ∙ node-make (dualOf t) a 0 (view m)
-      ∙ sym (negate-low a (told m a) (told m b) (told m a) (told m 0) t h)
+      ∙ sym (negate-leaf a (told m a) (told m b) (told m a) (told m 0) t h)
       ∙ ap negate (sym told-is))
 
   pub left-low : 6 ≤ t → a < x
@@ -169,18 +135,17 @@ module _ {m table : List ℕ} {x : ℕ} (p : Table m table x × (x < count m)) {
       -- two parts with these weights may stand next
       next-two : {d y z : ℕ} → 6 ≤ d → d < 11 → y < count m → z < count m → at m y 3 ≡ at m a 3 → at m y 4 ≡ at m a 4 → at m z 3 ≡ at m b 3 → at m z 4 ≡ at m b 4 → Next m d y z
       next-two {d} {y} {z} g l ly lz y3 y4 z3 z4 =
-          let w = row-two row h k in
           record {
             wf = p .0 .wf;
             tall = 1 + max (at m y 3) (at m z 3);
             wide = 1 + at m y 4 + at m z 4;
-            row = two g l ly lz refl refl (rw (y3, z3) (w .0)) (rw (y4, z4) (w .1));
+            row = two g l ly lz refl refl (rw (y3, z3) (row-tall row h k)) (rw (y4, z4) (row-wide row h k));
           }
 
   -- an implication: its left part, and the negation of its right one
   module _ (e : t ≡ 10) where
     lolli-is : negate (told m x) ≡ make 6 a (told m a) (negate (told m b))
-    lolli-is = ap negate (told-is ∙ ap (λ (k : ℕ). make k a (told m a) (told m b)) e) ∙ negate-lolli a (told m a) (told m b) a
+    lolli-is = ap negate (told-is ∙ ap (λ (k : ℕ). make k a (told m a) (told m b)) e) ∙ negate-make-lolli a (told m a) (told m b) a
 
     pub lolli-none : getD table b 0 ≡ 0 → Noted m (negate (told m x)) 0
     lolli-none z =
@@ -206,12 +171,12 @@ module _ {m table : List ℕ} {x : ℕ} (p : Table m table x × (x < count m)) {
   -- two parts, both negated
   module _ (h : 6 ≤ t) (k : t < 10) where
     mid-is : negate (told m x) ≡ make (dualOf t) a (negate (told m a)) (negate (told m b))
-    mid-is = ap negate told-is ∙ negate-mid a (told m a) (told m b) a t h k
+    mid-is = ap negate told-is ∙ negate-binary a (told m a) (told m b) a t h k
 
     mid-parts : {y : ℕ} → y < count m → told m y ≡ negate (told m x)
         → ((at m y 1 < count m) × (told m (at m y 1) ≡ negate (told m a))) × ((at m y 2 < count m) × (told m (at m y 2) ≡ negate (told m b)))
     mid-parts l f =
-        let d = dual-two t h (omega arith) in
+        let d = negated-binary t h (omega arith) in
         part-of-mid m (p .0 .wf) l (dualOf t) a (negate (told m a)) (negate (told m b)) (f ∙ mid-is) (d .0) (d .1)
 
     mid-none-left : getD table a 0 ≡ 0 → Noted m (negate (told m x)) 0
@@ -229,7 +194,7 @@ module _ {m table : List ℕ} {x : ℕ} (p : Table m table x × (x < count m)) {
 
       pub mid-next : Next m d (getD table a 0 - 1) (getD table b 0 - 1)
       mid-next =
-          let u = dual-two t h (omega arith) in
+          let u = negated-binary t h (omega arith) in
           let a-low : a < count m = omega (arith, p .1, left-low h) in
           let b-low : b < count m = omega (arith, p .1, right-low h (omega arith)) in
           let wa = same-weight m (p .0 .wf) (mid-left .0) a-low (mid-left .1) in
@@ -244,17 +209,17 @@ module _ {m table : List ℕ} {x : ℕ} (p : Table m table x × (x < count m)) {
           ∙ sym mid-is)
         where
           make-name : (n n′ : ℕ) (u v : Formula) → make (dualOf t) n u v ≡ make (dualOf t) n′ u v
-          make-name n n′ u v = make-any n n′ u v (dualOf t) (dual-two t h (omega arith) .0) (dual-two t h (omega arith) .1)
+          make-name n n′ u v = make-binary n n′ u v (dualOf t) (negated-binary t h (omega arith) .0) (negated-binary t h (omega arith) .1)
 
   -- one part
   module _ (h : 11 ≤ t) where
     high-is : negate (told m x) ≡ make (dualOf t) a (negate (told m a)) (told m 0)
-    high-is = ap negate told-is ∙ negate-high a (told m a) (told m b) a (told m 0) t h negation-tag
+    high-is = ap negate told-is ∙ negate-unary a (told m a) (told m b) a (told m 0) t h negation-tag
 
     high-none : getD table a 0 ≡ 0 → Noted m (negate (told m x)) 0
     high-none z =
         noted-none λ y l f.
-        let d = dual-one t h negation-tag in
+        let d = negated-unary t h negation-tag in
         let q = part-of-high m (p .0 .wf) l (dualOf t) a (negate (told m a)) (told m 0) (f ∙ high-is) (d .0) (d .1) in
         omega (arith, z, left-word (omega arith) .complete (at m y 1) (q .0) (q .1))
 
@@ -264,22 +229,21 @@ module _ {m table : List ℕ} {x : ℕ} (p : Table m table x × (x < count m)) {
 
       pub high-next : Next m d (getD table a 0 - 1) 0
       high-next =
-          let u = dual-one t h negation-tag in
+          let u = negated-unary t h negation-tag in
           let a-low : a < count m = omega (arith, p .1, left-low (omega arith)) in
-          let w = row-one row h in
           let s = same-weight m (p .0 .wf) (high-left .0) a-low (high-left .1) in
           rw e record {
             wf = p .0 .wf;
             tall = 1 + at m (getD table a 0 - 1) 3;
             wide = 1 + at m (getD table a 0 - 1) 4;
-            row = one (u .0) (u .1) (high-left .0) refl refl refl (rw (s .0) (w .0)) (rw (s .1) (w .1));
+            row = one (u .0) (u .1) (high-left .0) refl refl refl (rw (s .0) (row-tall-one row h)) (rw (s .1) (row-wide-one row h));
           }
 
       pub high-noted : {r : ℕ} → Noted m (node d (getD table a 0 - 1) 0 (view m)) r → Noted m (negate (told m x)) r
       high-noted =
           noted-as
           (node-make d (getD table a 0 - 1) 0 (view m)
-          ∙ rw (e, high-left .1) (make-high-any (getD table a 0 - 1) a (negate (told m a)) (told m 0) (told m 0) (dualOf t) (dual-one t h negation-tag .0) (dual-one t h negation-tag .1))
+          ∙ rw (e, high-left .1) (make-unary (getD table a 0 - 1) a (negate (told m a)) (told m 0) (told m 0) (dualOf t) (negated-unary t h negation-tag .0) (negated-unary t h negation-tag .1))
           ∙ sym high-is)
 
   pub left-none : 6 ≤ t → (t ≡ 10 → ⊥) → getD table a 0 ≡ 0 → Noted m (negate (told m x)) 0

@@ -13,24 +13,22 @@ use lib.ListN.{getD, length, drop, length-append, length-map, List·getD-eq-defa
 use lib.Seq.{getD-drop}
 use native.Mathlib.Nat.{add-zero}
 use Rattle.logic.specs.Formula.{Formula, One}
-use Rattle.logic.specs.Parts.{left-part, right-part}
+use Rattle.logic.specs.Parts.{tag-of, left-part, right-part}
 use Rattle.logic.specs.Sequent as sequent
 use Rattle.logic.specs.Sequent.{Sequent, _﹔_}
 use Rattle.logic.specs.Split.{left-of, right-of}
 use Rattle.logic.specs.Tree.{Rule, Axiom, OneIntro, TopIntro, BottomIntro, TensorIntro, ParIntro, WithIntro, PlusIntroLeft, PlusIntroRight, OfCourseIntro, WhyNotIntro, Weakening, Contraction, Dereliction}
-use Rattle.wire.specs.Write.{write-formula, write-rule}
-use Rattle.held.specs.Signs.{signs, make}
-use Rattle.held.specs.SignsLaws.{low, mid, high}
+use Rattle.wire.specs.Write.{write-rule}
 use Rattle.held.specs.Words.{at, count, told, Wf}
 use Rattle.held.specs.OrderLaws.{le-or-lt}
 use Rattle.held.specs.Answers.{Field}
 use Rattle.zones.specs.declared.Zones.{Zones}
 use Rattle.zones.specs.Zones.{Fits, linears, unrestricteds, remove, replace, Made, meant, without, replaced, pushed, only, split, without-unrestricted, pushed-unrestricted}
 use Rattle.zones.specs.ZonesLaws.{remove-length, map-remove, linears-length, unrestricteds-length, linear-at, unrestricted-at, within-unrestricted, without-count, pushed-count, without-unrestricted-count, meant-made, meant-left-part, meant-right-part, meant-moved, meant-moved-two, meant-moved-over, meant-copied, meant-copied-two}
-use Rattle.expand.specs.Short.{rule-of, place-of, mask-of, Step, _by_, tag-of, if-so, steps, step}
+use Rattle.expand.specs.Short.{rule-of, place-of, mask-of, Step, _by_, if-so, steps, step}
 use Rattle.expand.specs.Writing.{Sound, Means, first-of, second-of, Stepping, Stepping₂, premise-counts}
-use Rattle.expand.proofs.ByteSteps.{told-make, tag-low, part-left, part-right}
-use Rattle.expand.proofs.SpellSteps.{by-tag, linear-low, made-sound, made-means}
+use Rattle.expand.proofs.ByteSteps.{told-tag, told-left, told-right, part-left, part-right}
+use Rattle.expand.proofs.SpellSteps.{linear-low, made-sound, made-means}
 
 -- a step under a test
 if-taken : (b : Bool) (s s′ : Step) → if-so b s ≡ some s′ → (b ≡ true) × (s ≡ s′)
@@ -116,40 +114,6 @@ module _ (q : Sequent) (w : ℕ) {i : ℕ} {s : Step} (takes : step q w ≡ some
       let b = if-taken (ltb i (length (q .unrestricted))) (ps by r) s (sym known ∙ step-at k e) in
       (ltb-true _ _ (b .0), ap (λ (x : Step). x .premises) (b .1))
 
--- a formula's tag and parts, by the words
-module _ (n : ℕ) (u v : Formula) where
-  tag-make : (t : ℕ) → t < 13 → tag-of (make t n u v) ≡ t
-  unfolding make signs write-formula
-  tag-make =
-      by-tag
-      (λ t. tag-of (make t n u v) ≡ t)
-      (low (λ t. tag-of (make t n u v) ≡ t) refl refl refl refl refl refl)
-      (mid (λ t. tag-of (make t n u v) ≡ t) refl refl refl refl refl)
-      (high (λ t. tag-of (make t n u v) ≡ t) refl refl)
-
-  left-make : (t : ℕ) → t < 13 → 6 ≤ t → left-part (make t n u v) ≡ u
-  unfolding make signs left-part
-  left-make =
-      by-tag
-      (λ t. 6 ≤ t → left-part (make t n u v) ≡ u)
-      (λ t l g. absurd (omega arith))
-      (λ t g l h. mid (λ t. left-part (make t n u v) ≡ u) refl refl refl refl refl t g l)
-      (λ t g l h. high (λ t. left-part (make t n u v) ≡ u) refl refl t g l)
-
-  right-make : (t : ℕ) → 6 ≤ t → t < 11 → right-part (make t n u v) ≡ v
-  unfolding make signs right-part
-  right-make = mid (λ t. right-part (make t n u v) ≡ v) refl refl refl refl refl
-
-module _ {m : List ℕ} {x : ℕ} (wf : Wf m) (l : x < count m) where
-  tag-told : tag-of (told m x) ≡ at m x 0
-  tag-told = ap tag-of (told-make m x wf l) ∙ tag-make _ _ _ (at m x 0) (tag-low m x wf l)
-
-  left-told : 6 ≤ at m x 0 → left-part (told m x) ≡ told m (at m x 1)
-  left-told g = ap left-part (told-make m x wf l) ∙ left-make _ _ _ (at m x 0) (tag-low m x wf l) g
-
-  right-told : 6 ≤ at m x 0 → at m x 0 < 11 → right-part (told m x) ≡ told m (at m x 2)
-  right-told g h = ap right-part (told-make m x wf l) ∙ right-make _ _ _ (at m x 0) g h
-
 -- the formulas at a place of the zones
 module _ {m : List ℕ} {z : Zones} (s : Sound m z) where
   linear-length : length (meant (told m) z .linear) ≡ z .«linear_len»
@@ -169,7 +133,7 @@ module _ {m : List ℕ} {z : Zones} (s : Sound m z) where
 
   -- past the end stands One, whose tag is 0
   tagged-in : (i : ℕ) → 1 ≤ tag-of (getD (meant (told m) z .linear) i One) → i < z .«linear_len»
-  unfolding write-formula
+  unfolding tag-of
   tagged-in i g =
       ⊎-elim
       (λ l.
@@ -355,18 +319,18 @@ module _ (q : Sequent) (w : ℕ) {i : ℕ} {first second : Sequent} {rule : Rule
 -- a linear formula with the tag t, and its parts, by the fields read
 module _ {m : List ℕ} {z : Zones} (s : Sound m z) {i t : ℕ} (low : i < z .«linear_len») (tag : tag-of (getD (meant (told m) z .linear) i One) ≡ t) where
   tag-is : at m (getD (z .linear) i 0) 0 ≡ t
-  tag-is = sym (tag-told (s .wf) (linear-low s i low)) ∙ ap tag-of (sym (linear-told s i low)) ∙ tag
+  tag-is = sym (told-tag m _ (s .wf) (linear-low s i low)) ∙ ap tag-of (sym (linear-told s i low)) ∙ tag
 
   module _ {a : ℕ} (f : Field m (getD (z .linear) i 0) 1 a) (g : 6 ≤ t) where
     left-is : left-part (getD (meant (told m) z .linear) i One) ≡ told m a
-    left-is = ap left-part (linear-told s i low) ∙ rw (f .value) (left-told (s .wf) (linear-low s i low) (omega (arith, tag-is)))
+    left-is = ap left-part (linear-told s i low) ∙ rw (f .value) (told-left m _ (s .wf) (linear-low s i low) (omega (arith, tag-is)))
 
     left-held : a < count m
     left-held = omega (arith, f .value, part-left m _ (s .wf) (linear-low s i low) (omega (arith, tag-is)), linear-low s i low)
 
   module _ {b : ℕ} (f : Field m (getD (z .linear) i 0) 2 b) (g : 6 ≤ t) (h : t < 11) where
     right-is : right-part (getD (meant (told m) z .linear) i One) ≡ told m b
-    right-is = ap right-part (linear-told s i low) ∙ rw (f .value) (right-told (s .wf) (linear-low s i low) (omega (arith, tag-is)) (omega (arith, tag-is)))
+    right-is = ap right-part (linear-told s i low) ∙ rw (f .value) (told-right m _ (s .wf) (linear-low s i low) (omega (arith, tag-is)) (omega (arith, tag-is)))
 
     right-held : b < count m
     right-held = omega (arith, f .value, part-right m _ (s .wf) (linear-low s i low) (omega (arith, tag-is)) (omega (arith, tag-is)), linear-low s i low)

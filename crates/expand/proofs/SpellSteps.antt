@@ -10,10 +10,12 @@ use lib.ListN.{getD, length, take, drop, take-append-drop, length-take, length-m
 use lib.Seq.{length-take-le, take-take, getD-take, getD-at}
 use Rattle.logic.specs.Formula.{Formula, One, same, among, negate, spell}
 use Rattle.logic.specs.FormulaLaws.{same-iff}
+use Rattle.logic.specs.Parts.{tag-of, signs, make}
+use Rattle.logic.specs.PartsLaws.{leaf-tags, binary-tags, unary-tags, all-tags}
 use Rattle.logic.specs.Sequent.{Sequent, _﹔_}
 use Rattle.logic.specs.Built.{decomposable, Passed, none-yet, and-passed}
-use Rattle.held.specs.Signs.{signs, make, node}
-use Rattle.held.specs.SignsLaws.{low, mid, high, tagOf, node-make}
+use Rattle.held.specs.Signs.{node}
+use Rattle.held.specs.SignsLaws.{node-make}
 use Rattle.held.specs.Words.{at, count, view, told, Wf}
 use Rattle.held.specs.OrderLaws.{le-or-lt}
 use Rattle.held.specs.WordsLaws.{held-length, number-once, row-later}
@@ -25,31 +27,28 @@ use Rattle.expand.specs.Short.{spelled, spell-first}
 use Rattle.expand.specs.ShortLaws.{spell-at, spell-length, plain-passed, plain-at}
 use Rattle.expand.specs.Negations.{Noted}
 use Rattle.expand.specs.Writing.{Sound, Means, decomposes, FirstAt, Spellable, SpelledAs, SpellsOut}
-use Rattle.expand.proofs.ByteSteps.{told-make, tag-low, part-left, part-right}
-use Rattle.expand.proofs.NegationSteps.{told-tag, part-of-mid}
+use Rattle.expand.proofs.ByteSteps.{told-make, told-tag, tag-low, part-left, part-right}
+use Rattle.expand.proofs.NegationSteps.{part-of-mid}
 
 -- what a tag says: whether its formula is decomposed, and whether it is an implication
-pub by-tag : (P : ℕ → Type 0) → ((t : ℕ) → t < 6 → P t) → ((t : ℕ) → 6 ≤ t → t < 11 → P t) → ((t : ℕ) → 11 ≤ t → t < 13 → P t) → (t : ℕ) → t < 13 → P t
-by-tag P p q r t h = ⊎-elim (λ l. ⊎-elim (λ k. r t k h) (q t l) (le-or-lt 11 t)) (p t) (le-or-lt 6 t)
-
 module _ (n : ℕ) (u v : Formula) where
   decomposes-make : (t : ℕ) → t < 13 → decomposable (make t n u v) ≡ decomposes t
   unfolding make signs decomposable
   decomposes-make =
-      by-tag
+      all-tags
       (λ t. decomposable (make t n u v) ≡ decomposes t)
-      (low (λ t. decomposable (make t n u v) ≡ decomposes t) refl refl refl refl refl refl)
-      (mid (λ t. decomposable (make t n u v) ≡ decomposes t) refl refl refl refl refl)
-      (high (λ t. decomposable (make t n u v) ≡ decomposes t) refl refl)
+      (leaf-tags (λ t. decomposable (make t n u v) ≡ decomposes t) refl refl refl refl refl refl)
+      (binary-tags (λ t. decomposable (make t n u v) ≡ decomposes t) refl refl refl refl refl)
+      (unary-tags (λ t. decomposable (make t n u v) ≡ decomposes t) refl refl)
 
   spell-other : (t : ℕ) → t < 13 → (t ≡ 10 → ⊥) → spell (make t n u v) ≡ make t n u v
   unfolding make signs spell
   spell-other =
-      by-tag
+      all-tags
       (λ t. (t ≡ 10 → ⊥) → spell (make t n u v) ≡ make t n u v)
-      (low (λ t. (t ≡ 10 → ⊥) → spell (make t n u v) ≡ make t n u v) (λ o. refl) (λ o. refl) (λ o. refl) (λ o. refl) (λ o. refl) (λ o. refl))
-      (mid (λ t. (t ≡ 10 → ⊥) → spell (make t n u v) ≡ make t n u v) (λ o. refl) (λ o. refl) (λ o. refl) (λ o. refl) (λ o. absurd (o refl)))
-      (high (λ t. (t ≡ 10 → ⊥) → spell (make t n u v) ≡ make t n u v) (λ o. refl) (λ o. refl))
+      (leaf-tags (λ t. (t ≡ 10 → ⊥) → spell (make t n u v) ≡ make t n u v) (λ o. refl) (λ o. refl) (λ o. refl) (λ o. refl) (λ o. refl) (λ o. refl))
+      (binary-tags (λ t. (t ≡ 10 → ⊥) → spell (make t n u v) ≡ make t n u v) (λ o. refl) (λ o. refl) (λ o. refl) (λ o. refl) (λ o. absurd (o refl)))
+      (unary-tags (λ t. (t ≡ 10 → ⊥) → spell (make t n u v) ≡ make t n u v) (λ o. refl) (λ o. refl))
 
   spell-make : spell (make 10 n u v) ≡ make 7 n (negate u) v
   unfolding make signs spell
@@ -129,14 +128,14 @@ module _ {m table : List ℕ} {x : ℕ} (p : Spellable m table x) where
   right-low = part-right m x wf (p .low) (omega (arith, p .lolli)) (omega (arith, p .lolli))
 
   spelling : Spelling m table x
-  unfolding make signs tagOf
+  unfolding make signs tag-of
   spelling =
       let s = among-stands (spell (told m x)) (view m) (p .held) in
       let y = s .place in
       let l : y < count m = omega (arith, s .within, held-length m (count m)) in
       let e = s .here ∙ spell-lolli wf (p .low) (p .lolli) in
       let parts = part-of-mid m wf {y = y} l 7 (at m x 1) (negate (told m (at m x 1))) (told m (at m x 2)) e (omega arith) (omega arith) in
-      let tag : at m y 0 ≡ 7 = sym (told-tag m wf l) ∙ ap tagOf e in
+      let tag : at m y 0 ≡ 7 = sym (told-tag m y wf l) ∙ ap tag-of e in
       let right : at m y 2 ≡ at m x 2 = number-once m wf (at m y 2) (at m x 2) (parts .1 .0) (omega (arith, right-low, p .low)) .0 (parts .1 .1) in
       record {
         place = y;

@@ -11,6 +11,7 @@ use Rattle.logic.specs.Formula.{Formula}
 use Rattle.logic.specs.Sequent as sequent
 use Rattle.logic.specs.Sequent.{Sequent}
 use Rattle.logic.specs.Tree.{Rule, Tree, Trees, node, ∅, _▹_, premise-count}
+use Rattle.wire.specs.ZoneBytes.{length-write-zone}
 use Rattle.wire.specs.Write.{two-bytes, write-formulas, write-zone, write-node, write-nodes, message, write-tree}
 use Rattle.held.specs.Words.{count, view, told}
 use Rattle.zones.specs.declared.Zones.{Zones}
@@ -27,18 +28,14 @@ use Rattle.expand.proofs.ByteSteps.{wrote-one, wrote-then, wrote-as, wr
 use Rattle.expand.proofs.PremiseSteps.{fifteen, step-known, step-sized}
 
 -- a node's own bytes
-zone-length : (fs : List Formula) → length (write-zone fs) ≡ suc (suc (length (write-formulas fs)))
-unfolding write-zone
-zone-length fs = refl
-
 head-length-is : (w : ℕ) (q : Sequent) → length (head w q) ≡ 6 + length (write-formulas (q .linear)) + length (write-formulas (q .unrestricted))
 head-length-is w q =
     omega (
       arith,
       length-append (write-zone (q .linear)) (write-zone (q .unrestricted) ++ (getD premise-counts (rule-of w) 0 ∷ [])),
       length-append (write-zone (q .unrestricted)) (getD premise-counts (rule-of w) 0 ∷ []),
-      zone-length (q .linear),
-      zone-length (q .unrestricted),
+      length-write-zone (q .linear),
+      length-write-zone (q .unrestricted),
     )
 
 -- at most two premises
@@ -85,7 +82,7 @@ module _ {m : List ℕ} {z : Zones} {w : ℕ} {out : List ℕ} {to : ℕ} (p : H
   pub linear-room : Zone-room m (z .linear) (z .«linear_len») (set out to (rule-of w)) (to + 1)
   linear-room = record {
     good = linear-items (p .sound);
-    room = omega (arith, p .room, head-length-is w (meant (told m) z), zone-length (meant (told m) z .linear), length-set out to (rule-of w));
+    room = omega (arith, p .room, head-length-is w (meant (told m) z), length-write-zone (meant (told m) z .linear), length-set out to (rule-of w));
     short = omega (arith, p .short, head-length-is w (meant (told m) z));
   }
 
@@ -98,8 +95,8 @@ module _ {m : List ℕ} {z : Zones} {w : ℕ} {out : List ℕ} {to : ℕ} (p : H
             arith,
             p .room,
             head-length-is w (meant (told m) z),
-            zone-length (meant (told m) z .linear),
-            zone-length (meant (told m) z .unrestricted),
+            length-write-zone (meant (told m) z .linear),
+            length-write-zone (meant (told m) z .unrestricted),
             length-set out to (rule-of w),
             wrote-length x,
             x .after,
@@ -114,8 +111,8 @@ module _ {m : List ℕ} {z : Zones} {w : ℕ} {out : List ℕ} {to : ℕ} (p : H
             arith,
             p .room,
             head-length-is w (meant (told m) z),
-            zone-length (meant (told m) z .linear),
-            zone-length (meant (told m) z .unrestricted),
+            length-write-zone (meant (told m) z .linear),
+            length-write-zone (meant (told m) z .unrestricted),
             length-set out to (rule-of w),
             wrote-length x,
             x .after,

@@ -8,11 +8,12 @@ use mathlib.Core.Option.{Option, none, some}
 use Prim.Native.Nat.{ℕ, zero, suc, _+_, _*_, _/_, _%_}
 use lib.Dec.{eqb, ltb}
 use lib.ListN.{getD, length, take, drop}
-use Rattle.logic.specs.Formula.{Formula, One, spell}
-use Rattle.logic.specs.Parts.{left-part, right-part}
+use Rattle.logic.specs.Formula.{One}
+use Rattle.logic.specs.Parts.{tag-of, left-part, right-part}
 use Rattle.logic.specs.Sequent.{Sequent, _﹔_}
 use Rattle.logic.specs.Split.{left-of, right-of}
-use Rattle.logic.specs.Built.{decomposable}
+use Rattle.logic.specs.Conclusion.{concluded}
+unfoldable pub use Rattle.logic.specs.Conclusion.{spell-first}
 use Rattle.logic.specs.Tree.{
   Rule,
   Axiom,
@@ -35,7 +36,6 @@ use Rattle.logic.specs.Tree.{
   ∅,
   _▹_,
 }
-use Rattle.wire.specs.Write.{write-formula}
 use Rattle.zones.specs.Zones.{remove, replace}
 
 -- a word, and taking it apart
@@ -52,16 +52,8 @@ abbrev pub mask-of : ℕ → ℕ
 mask-of w = w / 1024
 
 -- an implication that is the first decomposable formula is spelled out at its top: no word is written for that
-abbrev pub either : Bool → List Formula → List Formula → List Formula
-either true fs gs = fs
-either false fs gs = gs
-
-unfoldable pub spell-first : List Formula → List Formula
-spell-first [] = []
-spell-first (f ∷ fs) = either (decomposable f) (spell f ∷ fs) (f ∷ spell-first fs)
-
 abbrev pub spelled : Sequent → Sequent
-spelled q = spell-first (q .linear) ﹔ q .unrestricted
+spelled q = concluded q
 
 -- the last rule of a tree, and its premises' sequents
 pub record Step : Type 0 where
@@ -72,10 +64,6 @@ abbrev pub _by_ : List Sequent → Rule → Step
 ps by r = record { rule = r; premises = ps }
 
 infix 5 _by_
--- a formula's tag: the first byte of its byte form
-abbrev pub tag-of : Formula → ℕ
-tag-of f = getD (write-formula f) 0 0
-
 -- the step, where the test holds
 abbrev pub if-so : Bool → Step → Option Step
 if-so true s = some s

@@ -1,6 +1,6 @@
 -- Laws of short trees: a word taken apart, the implication that is spelled out, the step at a place by each rule, and how `expand` goes on from node to node. Assumes nothing.
 use mathlib.Core.Path.{_≡_, refl, sym, ap, _∙_}
-use mathlib.Core.Bool.{Bool, true, false}
+use mathlib.Core.Bool.{Bool, true, false, cond}
 use mathlib.Core.List.{List, [], _∷_, _++_, append-nil}
 use mathlib.Core.Option.{Option, none, some}
 use Prim.Native.Nat.{ℕ, zero, suc, _+_, _-_, _≤_, _<_}
@@ -10,10 +10,12 @@ use lib.Dec.{eqb, ltb}
 use lib.ListN.{getD, length}
 use borrow.Author.Tests.{lt-ltb}
 use Rattle.logic.specs.Formula.{Formula, One, Bottom, Tensor, Par, With, Plus, Lolli, OfCourse, WhyNot, negate, spell}
-use Rattle.logic.specs.Parts.{left-part, right-part}
+use Rattle.logic.specs.Parts.{tag-of, left-part, right-part}
 use Rattle.logic.specs.Sequent.{Sequent, _﹔_}
 use Rattle.logic.specs.Split.{left-of, right-of}
 use Rattle.logic.specs.Built.{decomposable, Passed, none-yet, and-passed}
+use Rattle.logic.specs.Concludes.{spell-passed}
+pub use Rattle.logic.specs.Concludes.{spell-at}
 use Rattle.logic.specs.Tree.{
   Rule,
   Axiom,
@@ -36,9 +38,8 @@ use Rattle.logic.specs.Tree.{
   ∅,
   _▹_,
 }
-use Rattle.wire.specs.Write.{write-formula}
 use Rattle.zones.specs.Zones.{remove, replace}
-use Rattle.expand.specs.Short.{word, rule-of, place-of, mask-of, spell-first, spelled, Step, _by_, tag-of, if-so, steps, step, _and-then_, expand-all, grown, expand, Expands, Takes, either}
+use Rattle.expand.specs.Short.{word, rule-of, place-of, mask-of, spell-first, spelled, Step, _by_, if-so, steps, step, _and-then_, expand-all, grown, expand, Expands, Takes}
 
 -- a word taken apart
 module _ (rule place mask : ℕ) (r : rule < 32) (p : place < 32) where
@@ -52,17 +53,6 @@ module _ (rule place mask : ℕ) (r : rule < 32) (p : place < 32) where
   mask-of-word = omega arith
 
 -- the implication that is spelled out
-pub spell-passed : {fs : List Formula} → Passed fs → spell-first fs ≡ fs
-unfolding spell-first
-spell-passed none-yet = refl
-spell-passed (and-passed {f} {fs} e p) = rw (e, spell-passed p)
-
-pub spell-at : {before : List Formula} (f : Formula) (after : List Formula) → Passed before → decomposable f ≡ true
-    → spell-first (before ++ (f ∷ after)) ≡ before ++ (spell f ∷ after)
-unfolding spell-first
-spell-at f after none-yet d = rw d
-spell-at f after (and-passed e p) d = rw (e, spell-at f after p d)
-
 pub spell-lolli : {before : List Formula} (a b : Formula) (after : List Formula) → Passed before
     → spell-first (before ++ (Lolli a b ∷ after)) ≡ spell-first (before ++ (Par (negate a) b ∷ after))
 unfolding spell decomposable
@@ -73,7 +63,7 @@ unfolding spell-first
 spell-length [] = refl
 spell-length (f ∷ fs) = go (decomposable f) (spell-first fs) (spell-length fs)
   where
-    go : (d : Bool) (gs : List Formula) → length gs ≡ length fs → length (either d (spell f ∷ fs) (f ∷ gs)) ≡ suc (length fs)
+    go : (d : Bool) (gs : List Formula) → length gs ≡ length fs → length (cond d (spell f ∷ fs) (f ∷ gs)) ≡ suc (length fs)
     go true gs e = refl
     go false gs e = ap suc e
 
@@ -112,43 +102,43 @@ module _ (q : Sequent) {i : ℕ} (mask : ℕ) (low : i < 32) where
   step-top = step-word 6 (omega arith)
 
   pub step-bottom : getD (q .linear) i One ≡ Bottom → step q (word 3 i mask) ≡ some ((remove i (q .linear) ﹔ q .unrestricted) ∷ [] by BottomIntro)
-  unfolding steps write-formula
+  unfolding steps tag-of
   step-bottom e = step-word 3 (omega arith) ∙ rw e
 
   module _ {a b : Formula} where
     pub step-tensor : getD (q .linear) i One ≡ Tensor a b
         → step q (word 4 i mask)
         ≡ some ((left-of mask (remove i (q .linear)) ++ (a ∷ []) ﹔ q .unrestricted) ∷ (right-of mask (remove i (q .linear)) ++ (b ∷ []) ﹔ q .unrestricted) ∷ [] by TensorIntro)
-    unfolding steps write-formula left-part right-part
+    unfolding steps tag-of left-part right-part
     step-tensor e = step-word 4 (omega arith) ∙ rw e
 
     pub step-par : getD (q .linear) i One ≡ Par a b
         → step q (word 5 i mask) ≡ some ((remove i (q .linear) ++ (a ∷ b ∷ []) ﹔ q .unrestricted) ∷ [] by ParIntro)
-    unfolding steps write-formula left-part right-part
+    unfolding steps tag-of left-part right-part
     step-par e = step-word 5 (omega arith) ∙ rw e
 
     pub step-with : getD (q .linear) i One ≡ With a b
         → step q (word 7 i mask)
         ≡ some ((remove i (q .linear) ++ (a ∷ []) ﹔ q .unrestricted) ∷ (remove i (q .linear) ++ (b ∷ []) ﹔ q .unrestricted) ∷ [] by WithIntro)
-    unfolding steps write-formula left-part right-part
+    unfolding steps tag-of left-part right-part
     step-with e = step-word 7 (omega arith) ∙ rw e
 
     pub step-plus-left : getD (q .linear) i One ≡ Plus a b → step q (word 8 i mask) ≡ some ((replace i a (q .linear) ﹔ q .unrestricted) ∷ [] by PlusIntroLeft)
-    unfolding steps write-formula left-part right-part
+    unfolding steps tag-of left-part right-part
     step-plus-left e = step-word 8 (omega arith) ∙ rw e
 
     pub step-plus-right : getD (q .linear) i One ≡ Plus a b → step q (word 9 i mask) ≡ some ((replace i b (q .linear) ﹔ q .unrestricted) ∷ [] by PlusIntroRight)
-    unfolding steps write-formula left-part right-part
+    unfolding steps tag-of left-part right-part
     step-plus-right e = step-word 9 (omega arith) ∙ rw e
 
   module _ {a : Formula} where
     pub step-of-course : getD (q .linear) i One ≡ OfCourse a → step q (word 10 i mask) ≡ some ((a ∷ [] ﹔ q .unrestricted) ∷ [] by OfCourseIntro)
-    unfolding steps write-formula left-part right-part
+    unfolding steps tag-of left-part right-part
     step-of-course e = step-word 10 (omega arith) ∙ rw e
 
     pub step-why-not : getD (q .linear) i One ≡ WhyNot a
         → step q (word 11 i mask) ≡ some ((remove i (q .linear) ﹔ q .unrestricted ++ (a ∷ [])) ∷ [] by WhyNotIntro)
-    unfolding steps write-formula left-part right-part
+    unfolding steps tag-of left-part right-part
     step-why-not e = step-word 11 (omega arith) ∙ rw e
 
   -- and of an unrestricted one

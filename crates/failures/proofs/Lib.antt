@@ -1,4 +1,5 @@
 -- What the proofs of several functions use.
 mod Steps
 mod ItemSteps
+mod RecordSteps
 mod OrderSteps

@@ -4,7 +4,7 @@ use mathlib.Core.Path.{_≡_, refl, sym, ap, ap₂, subst, _∙_}
 use mathlib.Core.Logic.{⊎-elim, _⊎_, inl, inr}
 use mathlib.Core.Bool.{Bool, true, false, _||_, false≢true}
 use mathlib.Core.List.{List, [], _∷_, _++_, map, map-append}
-use Prim.Native.Nat.{ℕ, zero, suc, _+_, _*_, _/_, _%_, _≤_, _<_}
+use Prim.Native.Nat.{ℕ, zero, suc, _+_, _-_, _*_, _/_, _%_, _≤_, _<_}
 use native.Mathlib.Nat.{eq-or-lt-of-le, le-of-suc-le-suc}
 use native.Mathlib.Omega.{arith}
 use lib.ListN.{getD, length, length-map, List·getD-map}
@@ -18,7 +18,7 @@ use Rattle.logic.specs.Outcome.{State}
 use Rattle.zones.specs.declared.Zones.{Zones}
 use Rattle.zones.specs.Zones.{meant}
 use Rattle.held.specs.Answers.{Tells}
-use Rattle.held.specs.OrderLaws.{le-or-lt}
+use Rattle.held.specs.OrderLaws.{Rising, settled, le-or-lt}
 use Rattle.held.specs.Words.{told, Wf, Extends, Zeros}
 use Rattle.failures.specs.declared.items.Items.{Items}
 use Rattle.failures.specs.declared.Noted.{Noted}
@@ -27,8 +27,9 @@ use Rattle.failures.specs.Alike.{Alike}
 use Rattle.failures.specs.AlikeLaws.{alike-of, alike-trans, alike-snoc, alike-length, alike-at, contains-alike, record-known, record-full, record-new}
 use Rattle.failures.specs.Items.{key-items, key-of, Listing, Names, listed, Lists}
 use Rattle.failures.specs.ItemsLaws.{keys-once, key-items-key, key-items-listing, key-items-length, key-grows}
-use Rattle.failures.specs.Records.{words, tally, word-at, record-at, first, records, Standing, WfFailures, Among, NotedTo}
+use Rattle.failures.specs.Records.{words, orders, tally, word-at, record-at, order-at, code, code-at, first, records, Standing, WfFailures, Among, NotedTo}
 use Rattle.failures.specs.RecordsLaws.{same-word, first-length, first-at, records-appended, wf-appended, reset-records}
+use Rattle.failures.specs.OrderLaws.{ordered-rising}
 use Rattle.failures.specs.Failed.{failed, NotedAs, Recording}
 
 -- as many keys as failures
@@ -126,7 +127,7 @@ module _ {m : List ℕ} (wf : Wf m) {f : List ℕ} (z : WfFailures m f) {xs : Li
   noted-as : length xs ≤ 31 → (r : Noted) {f' : List ℕ} → NotedTo f xs r f' → WfFailures m f' × NotedAs (failed (told m) f) k r (failed (told m) f')
   noted-as few noted.Known {f'} n = (rw (n .same) z, record { known = among-contains (n .known); same = ap (failed (told m)) (n .same) })
   noted-as few noted.Recorded {f'} n = (
-    wf-appended z (n .room) (n .appended) listing few (n .new),
+    wf-appended z (n .room) (n .appended) listing few,
     record {
       new = not-among-contains (n .new);
       room = omega (arith, failed-length (told m) f, n .room);
@@ -191,17 +192,37 @@ module _ {m : List ℕ} (wf : Wf m) {f f' : List ℕ} (z : WfFailures m f) (z' :
       let s' = z' .failures .stands i l' in
       same-word f f' i i (omega (arith, z .sized, z .few)) (omega (arith, z' .sized, z' .few)) (s .few) (s' .few) (s .rest) (s' .rest) (image-record i l)
 
+  image-order : (j : ℕ) → j < tally f → order-at f j ≡ order-at f' j
+  image-order = settled (code-at f) (order-at f) (order-at f') (tally f) (ordered-rising (z .order)) record { low = other .low; above = above }
+    where
+      other : Rising (code-at f') (order-at f') (tally f)
+      other = rw tallies (ordered-rising (z' .order))
+
+      same : (j : ℕ) → j < tally f → code-at f (order-at f' j) ≡ code-at f' (order-at f' j)
+      same j l = ap code (image-record (order-at f' j) (other .low j l))
+
+      above : (i j : ℕ) → i < j → j < tally f → code-at f (order-at f' i) < code-at f (order-at f' j)
+      above i j l u = omega (arith, other .above i j l u, same i (omega arith), same j u)
+
   image-at : (k : ℕ) → k < words → getD f k 0 ≡ getD f' k 0
   image-at zero l = tallies
-  image-at (suc k) l = ⊎-elim unused used (le-or-lt (tally f) (k / 32))
+  image-at (suc k) l = ⊎-elim (λ u. ⊎-elim unused (order u) (le-or-lt (orders + tally f) (suc k))) (λ u. ⊎-elim (rest u) used (le-or-lt (tally f) (k / 32))) (le-or-lt orders (suc k))
     where
-      unused : tally f ≤ k / 32 → getD f (suc k) 0 ≡ getD f' (suc k) 0
-      unused h = z .rest .zero (suc k) (omega arith) l ∙ sym (z' .rest .zero (suc k) (omega (arith, tallies)) l)
-
       used : k / 32 < tally f → getD f (suc k) 0 ≡ getD f' (suc k) 0
       used h =
           let e : 1 + 32 * (k / 32) + k % 32 ≡ suc k = omega arith in
           rw (← e) (image-word (k / 32) h (k % 32) (omega arith))
+
+      rest : suc k < orders → tally f ≤ k / 32 → getD f (suc k) 0 ≡ getD f' (suc k) 0
+      rest u h = z .rest .zero (suc k) (omega arith) u ∙ sym (z' .rest .zero (suc k) (omega (arith, tallies)) u)
+
+      order : orders ≤ suc k → suc k < orders + tally f → getD f (suc k) 0 ≡ getD f' (suc k) 0
+      order u h =
+          let e : orders + (suc k - orders) ≡ suc k = omega arith in
+          rw (← e) (image-order (suc k - orders) (omega arith))
+
+      unused : orders + tally f ≤ suc k → getD f (suc k) 0 ≡ getD f' (suc k) 0
+      unused h = z .unused .zero (suc k) h l ∙ sym (z' .unused .zero (suc k) (omega (arith, tallies)) l)
 
   pub image-once : f ≡ f'
   image-once = ext-getD 0 f f' (z .sized ∙ sym (z' .sized)) (λ k l. image-at k (omega (arith, z .sized)))

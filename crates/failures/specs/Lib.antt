@@ -6,7 +6,7 @@ pub mod Items
 pub mod ItemsLaws
 pub mod Records
 pub mod RecordsLaws
-pub mod Failed
-pub mod FailedLaws
 pub mod Order
 pub mod OrderLaws
+pub mod Failed
+pub mod FailedLaws

@@ -12,7 +12,7 @@ use Rattle.held.specs.OrderLaws.{le-or-lt}
 use Rattle.held.specs.Words.{Zeros, Extends}
 use Rattle.failures.specs.Items.{Item, Listing}
 use Rattle.failures.specs.ItemsLaws.{listing-grows}
-use Rattle.failures.specs.Records.{most, words, tally, size-at, item-at, word-at, items-at, record-at, first, records, Stands, Standing, WfFailures, Sized, Neat, Among, Appended}
+use Rattle.failures.specs.Records.{most, words, tally, size-at, item-at, word-at, items-at, record-at, first, records, Stands, Standing, WfFailures, Sized, Kept, Appended}
 
 -- the first n items of failure i
 pub items-length : (f : List ℕ) (i n : ℕ) → 2 + 32 * i + n ≤ length f → length (items-at f i n) ≡ n
@@ -100,15 +100,12 @@ unfolding first
 first-same f f' zero g = refl
 first-same f f' (suc n) g = ap₂ (λ fs x. fs ++ (x ∷ [])) (first-same f f' n (λ i l. g i (omega arith))) (g n (omega arith))
 
--- well-formed failures lie within the words
+-- well-formed failures lie within the words, and stand in order
 pub standing-sized : {m f : List ℕ} {n : ℕ} → length f ≡ words → n ≤ most → Standing m f n → Sized f n
 standing-sized e l z = record { long = e; low = l; small = λ i u. z .stands i u .few }
 
-pub standing-neat : {m f : List ℕ} {n : ℕ} → length f ≡ words → n ≤ most → Standing m f n → Neat f n
-standing-neat e l z = record { within = standing-sized e l z; rest = λ i u. z .stands i u .rest }
-
-pub wf-sized : {m f : List ℕ} → WfFailures m f → Sized f (tally f)
-wf-sized z = standing-sized (z .sized) (z .few) (z .failures)
+pub wf-kept : {m f : List ℕ} → WfFailures m f → Kept f (tally f)
+wf-kept z = record { within = standing-sized (z .sized) (z .few) (z .failures); order = z .order }
 
 -- a failure more: the others stay as they are, and it stands last
 module _ {m f : List ℕ} {xs f' : List ℕ} (z : WfFailures m f) (room : tally f < most) (a : Appended f (tally f) xs f') where
@@ -123,14 +120,15 @@ module _ {m f : List ℕ} {xs f' : List ℕ} (z : WfFailures m f) (room : tally 
       ap (first f') (a .counted ∙ add-one (tally f))
       ∙ ap₂ (λ fs x. fs ++ (x ∷ [])) (first-same f f' (tally f) record-kept) (a .here)
 
-  pub wf-appended : Listing m xs → length xs ≤ 31 → (Among f (tally f) xs → ⊥) → WfFailures m f'
-  wf-appended listing few new =
+  pub wf-appended : Listing m xs → length xs ≤ 31 → WfFailures m f'
+  wf-appended listing few =
       record {
         sized = a .long ∙ z .sized;
         few = omega (arith, a .counted);
         failures = record { stands = λ i l. ⊎-elim last old (eq-or-lt-of-le (le-of-suc-le-suc (rw (a .counted ∙ add-one (tally f)) at l))) };
-        once = record { apart = λ i j l u. ⊎-elim (new-apart i j l) (old-apart i j l) (eq-or-lt-of-le (le-of-suc-le-suc (rw (a .counted ∙ add-one (tally f)) at u))) };
-        rest = record { zero = λ k h l. a .after k (omega (arith, a .counted)) ∙ z .rest .zero k (omega (arith, a .counted)) l };
+        order = rw (a .counted) (a .order);
+        rest = record { zero = λ k h l. a .after k (omega (arith, a .counted)) l ∙ z .rest .zero k (omega (arith, a .counted)) l };
+        unused = record { zero = λ k h l. a .unused k (omega (arith, a .counted)) ∙ z .unused .zero k (omega (arith, a .counted)) l };
       }
     where
       old : {i : ℕ} → i < tally f → Stands m f' i
@@ -149,14 +147,8 @@ module _ {m f : List ℕ} {xs f' : List ℕ} (z : WfFailures m f) (room : tally 
           record {
             few = omega (arith, a .size);
             items = rw (a .here) listing;
-            rest = record { zero = λ k h u. a .after k (omega (arith, a .size)) ∙ z .rest .zero k (omega arith) (omega arith) };
+            rest = record { zero = λ k h u. a .after k (omega (arith, a .size)) (omega arith) ∙ z .rest .zero k (omega arith) (omega arith) };
           }
-
-      old-apart : (i j : ℕ) → i < j → j < tally f → record-at f' i ≡ record-at f' j → ⊥
-      old-apart i j l u q = z .once .apart i j l u (sym (record-kept i (omega arith)) ∙ q ∙ record-kept j u)
-
-      new-apart : (i j : ℕ) → i < j → j ≡ tally f → record-at f' i ≡ record-at f' j → ⊥
-      new-apart i j l e q = new record { place = i; low = omega arith; here = sym (record-kept i (omega arith)) ∙ q ∙ ap (record-at f') e ∙ a .here }
 
 -- more formulas held
 pub failures-grow : {m m' f : List ℕ} → Extends m m' → WfFailures m f → WfFailures m' f
@@ -165,8 +157,9 @@ failures-grow grew z =
       sized = z .sized;
       few = z .few;
       failures = record { stands = λ i l. let s = z .failures .stands i l in record { few = s .few; items = listing-grows grew (s .items); rest = s .rest } };
-      once = z .once;
+      order = z .order;
       rest = z .rest;
+      unused = z .unused;
     }
 
 -- words that are all zero
@@ -177,8 +170,9 @@ reset-wf m {f'} e z =
       sized = e;
       few = omega arith;
       failures = record { stands = λ i l. absurd (omega arith) };
-      once = record { apart = λ i j l u. absurd (omega arith) };
-      rest = record { zero = λ k h l. z .zero k (omega arith) l };
+      order = record { places = λ j l. absurd (omega arith) };
+      rest = record { zero = λ k h l. z .zero k (omega arith) (omega arith) };
+      unused = record { zero = λ k h l. z .zero k (omega arith) l };
     }
 
 pub reset-records : {f' : List ℕ} → Zeros f' 0 words → records f' ≡ []

@@ -7,8 +7,9 @@ ghost use Rattle.held.specs.Words.{Wf, Zeros};
 ghost use Rattle.failures.specs.Items.{Item, Listing};
 ghost use Rattle.failures.specs.Records.{most, words, items-at, Stands, Standing, WfFailures, ResetTo};
 use super::MOST;
+use super::ORDER;
 use super::WORDS;
-use super::order::different;
+use super::order::ordered;
 use held::entry::zeros;
 use held::words::field;
 
@@ -94,10 +95,13 @@ pub fn well_formed(held: &[u16], fail: &[u16]) -> bool
     if !records_fit(held, fail, n) {
         return false;
     }
-    if !different(fail, n) {
+    if !ordered(fail, n) {
         return false;
     }
-    zeros(fail, 1 + 32 * n, WORDS)
+    if !zeros(fail, 1 + 32 * n, ORDER) {
+        return false;
+    }
+    zeros(fail, ORDER + n, WORDS)
 }
 
 // Makes every word zero.

@@ -11,30 +11,27 @@ use lib.Seq.{getD-set-same, getD-set-other}
 use denote.Enum.Declared.{tagOf}
 use Rattle.logic.specs.Formula.{Formula, One, negate, spell, height, size, among}
 use Rattle.logic.specs.FormulaLaws.{negate-height, negate-size, spell-height, spell-size}
-use Rattle.logic.specs.Held.{add, enter}
-use Rattle.held.specs.Signs.{node, make, dualOf}
-use Rattle.held.specs.SignsLaws.{
-  node-make,
+use Rattle.logic.specs.PartsLaws.{
+  make-binary,
+  make-unary,
   make-lolli,
   make-par,
-  enter-low,
-  enter-mid,
-  enter-high,
-  negate-low,
-  negate-mid,
-  negate-lolli,
-  negate-high,
-  dual-unit,
-  dual-name,
-  dual-two,
-  dual-one,
-  make-any,
-  make-mid-height,
-  make-mid-size,
-  make-high-any,
-  make-high-height,
-  make-high-size,
+  height-binary,
+  height-unary,
+  size-binary,
+  size-unary,
+  negate-leaf,
+  negate-binary,
+  negate-make-lolli,
+  negate-unary,
+  negated-unit,
+  negated-name,
+  negated-binary,
+  negated-unary,
 }
+use Rattle.logic.specs.Held.{add, enter}
+use Rattle.held.specs.Signs.{node, make, dualOf}
+use Rattle.held.specs.SignsLaws.{node-make, enter-low, enter-mid, enter-high}
 use Rattle.held.specs.EnterLaws.{add-known, add-unknown, added-longer, enter-longer}
 use Rattle.held.specs.OrderLaws.{le-or-lt, eq-or-not}
 use Rattle.held.specs.Words.{at, count, most, held, view, told, Row, unit, name, two, one, Wf, Extends}
@@ -66,15 +63,16 @@ pub record RowOf (m : List ℕ) (x t a b : ℕ) : Type 0 where
 pub row-of : (m : List ℕ) (x t a b : ℕ) → Wf m → x < count m → t ≡ at m x 0 → a ≡ at m x 1 → b ≡ at m x 2 → RowOf m x t a b
 row-of m x t a b z l p q r = record { wf = z; low = l; row = rw (p, q, r) (z .formulas .rows x l); here = rw (p, q, r) (held-node m (count m) (z .formulas) x l ∙ node-make _ _ _ _) }
 
-leaf-row : {m : List ℕ} {x t a b h s : ℕ} (n : ℕ) → Row m x t a b h s → t < 6 → Row m n (dualOf t) a 0 h s
-leaf-row {m} {x} {t} n (unit l x₁ y e f) p = unit (dual-unit t l) x₁ refl e f
-leaf-row {m} {x} {t} n (name k l x₁ y e f) p = let d = dual-name t k l in name (d .0) (d .1) x₁ refl e f
+-- the row of a leaf's negation
+pub leaf-row : {m : List ℕ} {x t a b h s : ℕ} (n : ℕ) → Row m x t a b h s → t < 6 → Row m n (dualOf t) a 0 h s
+leaf-row {m} {x} {t} n (unit l x₁ y e f) p = unit (negated-unit t l) x₁ refl e f
+leaf-row {m} {x} {t} n (name k l x₁ y e f) p = let d = negated-name t k l in name (d .0) (d .1) x₁ refl e f
 leaf-row n (two k l x y e f u v) p = absurd (omega arith)
 leaf-row n (one k l x y e f u v) p = absurd (omega arith)
 
 dual-low : {m : List ℕ} {x t a b h s : ℕ} → Row m x t a b h s → t < 6 → dualOf t < 6
-dual-low {m} {x} {t} (unit l x₁ y e f) p = let d = dual-unit t l in omega arith
-dual-low {m} {x} {t} (name k l x₁ y e f) p = dual-name t k l .1
+dual-low {m} {x} {t} (unit l x₁ y e f) p = let d = negated-unit t l in omega arith
+dual-low {m} {x} {t} (name k l x₁ y e f) p = negated-name t k l .1
 dual-low (two k l x y e f u v) p = absurd (omega arith)
 dual-low (one k l x y e f u v) p = absurd (omega arith)
 
@@ -84,7 +82,7 @@ step-known m memo x (suc v) z e f = let k = z .notes .known x v (sym e ∙ omega
 
 pub step-leaf : (m : List ℕ) (x t a b d : ℕ) → RowOf m x t a b → t < 6 → d ≡ dualOf t → LeafAt m x d a
 step-leaf m x t a b d z p e =
-    let q : negate (told m x) ≡ make d a (told m a) (told m 0) = rw (z .here, e) (negate-low a (told m a) (told m b) (told m a) (told m 0) t p) in
+    let q : negate (told m x) ≡ make d a (told m a) (told m 0) = rw (z .here, e) (negate-leaf a (told m a) (told m b) (told m a) (told m 0) t p) in
     record {
       next = record { wf = z .wf; tall = at m x 3; wide = at m x 4; row = rw e (leaf-row (count m) (z .row) p) };
       here = node-make d a 0 (view m) ∙ sym q;
@@ -93,19 +91,19 @@ step-leaf m x t a b d z p e =
 
 pub step-two : (m : List ℕ) (x t a b d : ℕ) → RowOf m x t a b → 6 ≤ t → t < 10 → d ≡ dualOf t → TwoAt m x d a b
 step-two m x t a b d z k l e =
-    let w = dual-two t k (omega arith) in
-    record { left = row-left (z .row) k; right = row-right (z .row) k (omega arith); low = rw e (w .0); high = rw e (w .1); here = rw (z .here, e) (negate-mid a (told m a) (told m b) 0 t k l) }
+    let w = negated-binary t k (omega arith) in
+    record { left = row-left (z .row) k; right = row-right (z .row) k (omega arith); low = rw e (w .0); high = rw e (w .1); here = rw (z .here, e) (negate-binary a (told m a) (told m b) 0 t k l) }
 
 pub step-half : (m : List ℕ) (x t a b : ℕ) → RowOf m x t a b → t ≡ 10 → HalfAt m x a b
 step-half m x t a b z e =
-    record { left = row-left (z .row) (omega arith); right = row-right (z .row) (omega arith) (omega arith); here = rw (z .here, e) (negate-lolli a (told m a) (told m b) 0) }
+    record { left = row-left (z .row) (omega arith); right = row-right (z .row) (omega arith) (omega arith); here = rw (z .here, e) (negate-make-lolli a (told m a) (told m b) 0) }
 
 pub step-single : (m : List ℕ) (x t a b d : ℕ) → RowOf m x t a b → 10 ≤ t → (t ≡ 10 → ⊥) → d ≡ dualOf t → SingleAt m x d a
 step-single m x t a b d z k f e =
     let k' : 11 ≤ t = omega arith in
     let l = row-low (z .row) in
-    let w = dual-one t k' l in
-    record { left = row-left (z .row) (omega arith); low = rw e (w .0); high = rw e (w .1); here = rw (z .here, e) (negate-high a (told m a) (told m b) 0 One t k' l) }
+    let w = negated-unary t k' l in
+    record { left = row-left (z .row) (omega arith); low = rw e (w .0); high = rw e (w .1); here = rw (z .here, e) (negate-unary a (told m a) (told m b) 0 One t k' l) }
 
 -- the memo under growth, and with one more number
 pub memo-grows : (m m' memo : List ℕ) → Extends m m' → Memo m memo → Memo m' memo
@@ -169,11 +167,11 @@ small-neg m z x l =
 -- ready to enter the whole
 pub ready-pair : (m m' memo : List ℕ) (x t a b : ℕ) (f g : Formula) → Wf m → x < count m → Extends m m' → Wf m' → Memo m' memo → a < count m' → b < count m' → told m' a ≡ f → told m' b ≡ g → 6 ≤ t → t < 11 → negate (told m x) ≡ make t 0 f g → Ready m' memo x t a b
 ready-pair m m' memo x t a b f g z l p z' n u v ea eb k j h =
-    let eq : node t a b (view m') ≡ negate (told m x) = node-make t a b (view m') ∙ (ap (λ y. make t a y (told m' b)) ea ∙ (ap (λ y. make t a f y) eb ∙ (make-any a 0 f g t k j ∙ sym h))) in
+    let eq : node t a b (view m') ≡ negate (told m x) = node-make t a b (view m') ∙ (ap (λ y. make t a y (told m' b)) ea ∙ (ap (λ y. make t a f y) eb ∙ (make-binary a 0 f g t k j ∙ sym h))) in
     let s = small-neg m z x l in
     let ws = weights m' (count m') (z' .formulas) in
-    let ht : height (negate (told m x)) ≡ 1 + max (at m' a 3) (at m' b 3) = omega (arith, sym (ap height eq) ∙ (ap height (node-make t a b (view m')) ∙ make-mid-height a (told m' a) (told m' b) t k j), ws a u .0, ws b v .0) in
-    let st : size (negate (told m x)) ≡ 1 + at m' a 4 + at m' b 4 = omega (arith, sym (ap size eq) ∙ (ap size (node-make t a b (view m')) ∙ make-mid-size a (told m' a) (told m' b) t k j), ws a u .1, ws b v .1) in
+    let ht : height (negate (told m x)) ≡ 1 + max (at m' a 3) (at m' b 3) = omega (arith, sym (ap height eq) ∙ (ap height (node-make t a b (view m')) ∙ height-binary a (told m' a) (told m' b) t k j), ws a u .0, ws b v .0) in
+    let st : size (negate (told m x)) ≡ 1 + at m' a 4 + at m' b 4 = omega (arith, sym (ap size eq) ∙ (ap size (node-make t a b (view m')) ∙ size-binary a (told m' a) (told m' b) t k j), ws a u .1, ws b v .1) in
     record {
       turn = record { wf = z'; low = lt-of-lt-of-le l (p .more); notes = n };
       next = record { wf = z'; tall = height (negate (told m x)); wide = size (negate (told m x)); row = two k j u v ht st (s .0) (s .1) };
@@ -182,11 +180,11 @@ ready-pair m m' memo x t a b f g z l p z' n u v ea eb k j h =
 
 pub ready-single : (m m' memo : List ℕ) (x t a : ℕ) (f : Formula) → Wf m → x < count m → Extends m m' → Wf m' → Memo m' memo → a < count m' → told m' a ≡ f → 11 ≤ t → t < 13 → negate (told m x) ≡ make t 0 f One → Ready m' memo x t a 0
 ready-single m m' memo x t a f z l p z' n u ea k j h =
-    let eq : node t a 0 (view m') ≡ negate (told m x) = node-make t a 0 (view m') ∙ (ap (λ y. make t a y (told m' 0)) ea ∙ (make-high-any a 0 f (told m' 0) One t k j ∙ sym h)) in
+    let eq : node t a 0 (view m') ≡ negate (told m x) = node-make t a 0 (view m') ∙ (ap (λ y. make t a y (told m' 0)) ea ∙ (make-unary a 0 f (told m' 0) One t k j ∙ sym h)) in
     let s = small-neg m z x l in
     let ws = weights m' (count m') (z' .formulas) in
-    let ht : height (negate (told m x)) ≡ 1 + at m' a 3 = omega (arith, sym (ap height eq) ∙ (ap height (node-make t a 0 (view m')) ∙ make-high-height a (told m' a) (told m' 0) t k j), ws a u .0) in
-    let st : size (negate (told m x)) ≡ 1 + at m' a 4 = omega (arith, sym (ap size eq) ∙ (ap size (node-make t a 0 (view m')) ∙ make-high-size a (told m' a) (told m' 0) t k j), ws a u .1) in
+    let ht : height (negate (told m x)) ≡ 1 + at m' a 3 = omega (arith, sym (ap height eq) ∙ (ap height (node-make t a 0 (view m')) ∙ height-unary a (told m' a) (told m' 0) t k j), ws a u .0) in
+    let st : size (negate (told m x)) ≡ 1 + at m' a 4 = omega (arith, sym (ap size eq) ∙ (ap size (node-make t a 0 (view m')) ∙ size-unary a (told m' a) (told m' 0) t k j), ws a u .1) in
     record {
       turn = record { wf = z'; low = lt-of-lt-of-le l (p .more); notes = n };
       next = record { wf = z'; tall = height (negate (told m x)); wide = size (negate (told m x)); row = one k j u refl ht st (s .0) (s .1) };
@@ -356,14 +354,14 @@ module _ (m : List ℕ) (x a b : ℕ) (z : Implication m x) (ea : a ≡ at m x 1
     right-low = lt-of-lt-of-le spell-right (y .grew .more)
 
     pub spell-node : node 7 i b (view m₁) ≡ spell (told m x)
-    spell-node = node-make 7 i b (view m₁) ∙ (rw (y .here, right-kept) (make-any i 0 (negate (told m a)) (told m b) 7 (omega arith) (omega arith)) ∙ sym spell-is)
+    spell-node = node-make 7 i b (view m₁) ∙ (rw (y .here, right-kept) (make-binary i 0 (negate (told m a)) (told m b) 7 (omega arith) (omega arith)) ∙ sym spell-is)
 
     pub spell-next : Next m₁ 7 i b
     spell-next =
         let s = spell-small in
         let ws = weights m₁ (count m₁) (y .wf .formulas) in
-        let ht : height (spell (told m x)) ≡ 1 + max (at m₁ i 3) (at m₁ b 3) = omega (arith, sym (ap height spell-node) ∙ (ap height (node-make 7 i b (view m₁)) ∙ make-mid-height i (told m₁ i) (told m₁ b) 7 (omega arith) (omega arith)), ws i (y .low) .0, ws b right-low .0) in
-        let st : size (spell (told m x)) ≡ 1 + at m₁ i 4 + at m₁ b 4 = omega (arith, sym (ap size spell-node) ∙ (ap size (node-make 7 i b (view m₁)) ∙ make-mid-size i (told m₁ i) (told m₁ b) 7 (omega arith) (omega arith)), ws i (y .low) .1, ws b right-low .1) in
+        let ht : height (spell (told m x)) ≡ 1 + max (at m₁ i 3) (at m₁ b 3) = omega (arith, sym (ap height spell-node) ∙ (ap height (node-make 7 i b (view m₁)) ∙ height-binary i (told m₁ i) (told m₁ b) 7 (omega arith) (omega arith)), ws i (y .low) .0, ws b right-low .0) in
+        let st : size (spell (told m x)) ≡ 1 + at m₁ i 4 + at m₁ b 4 = omega (arith, sym (ap size spell-node) ∙ (ap size (node-make 7 i b (view m₁)) ∙ size-binary i (told m₁ i) (told m₁ b) 7 (omega arith) (omega arith)), ws i (y .low) .1, ws b right-low .1) in
         record { wf = y .wf; tall = height (spell (told m x)); wide = size (spell (told m x)); row = two (omega arith) (omega arith) (y .low) right-low ht st (s .0) (s .1) }
 
     spell-all : enter (spell (told m x)) (view m) ≡ add (spell (told m x)) (view m₁)

@@ -8,8 +8,9 @@ use native.Mathlib.Nat.{lt-of-lt-of-le}
 use lib.ListN.{getD, length, length-append}
 use Rattle.logic.specs.Formula.{Formula, One, height, size, among}
 use Rattle.logic.specs.Held.{add, enter}
+use Rattle.logic.specs.PartsLaws.{height-binary, height-unary, size-binary, size-unary}
 use Rattle.held.specs.Signs.{make, node}
-use Rattle.held.specs.SignsLaws.{node-make, enter-low, enter-mid, enter-high, make-mid-height, make-mid-size, make-high-height, make-high-size}
+use Rattle.held.specs.SignsLaws.{node-make, enter-low, enter-mid, enter-high}
 use Rattle.held.specs.EnterLaws.{add-unknown, added-longer, enter-longer}
 use Rattle.held.specs.Words.{at, count, most, view, told, Row, unit, name, two, one, Wf, Extends}
 use Rattle.held.specs.WordsLaws.{held-length, weights, keeps, extends-trans}
@@ -32,8 +33,8 @@ module _ (m : List ℕ) (t i j : ℕ) (x y f : Formula) (z : Wf m) (u : i < coun
   pair-ahead k l made tall wide =
       let here : node t i j (view m) ≡ f = node-make t i j (view m) ∙ (rw (ei, ej) (made i)) in
       let ws = weights m (count m) (z .formulas) in
-      let ht : height f ≡ 1 + max (at m i 3) (at m j 3) = omega (arith, ap height (sym (made 0)) ∙ make-mid-height 0 x y t k l, ap height ei, ap height ej, ws i u .0, ws j v .0) in
-      let st : size f ≡ 1 + at m i 4 + at m j 4 = omega (arith, ap size (sym (made 0)) ∙ make-mid-size 0 x y t k l, ap size ei, ap size ej, ws i u .1, ws j v .1) in
+      let ht : height f ≡ 1 + max (at m i 3) (at m j 3) = omega (arith, ap height (sym (made 0)) ∙ height-binary 0 x y t k l, ap height ei, ap height ej, ws i u .0, ws j v .0) in
+      let st : size f ≡ 1 + at m i 4 + at m j 4 = omega (arith, ap size (sym (made 0)) ∙ size-binary 0 x y t k l, ap size ei, ap size ej, ws i u .1, ws j v .1) in
       record { next = record { wf = z; tall = height f; wide = size f; row = two k l u v ht st tall wide }; here = here }
 
 module _ (m : List ℕ) (t i : ℕ) (x f : Formula) (z : Wf m) (u : i < count m) (ei : told m i ≡ x) where
@@ -41,8 +42,8 @@ module _ (m : List ℕ) (t i : ℕ) (x f : Formula) (z : Wf m) (u : i < count m)
   part-ahead k l made tall wide =
       let here : node t i 0 (view m) ≡ f = node-make t i 0 (view m) ∙ (rw ei (made i (told m 0))) in
       let ws = weights m (count m) (z .formulas) in
-      let ht : height f ≡ 1 + at m i 3 = omega (arith, ap height (sym (made 0 One)) ∙ make-high-height 0 x One t k l, ap height ei, ws i u .0) in
-      let st : size f ≡ 1 + at m i 4 = omega (arith, ap size (sym (made 0 One)) ∙ make-high-size 0 x One t k l, ap size ei, ws i u .1) in
+      let ht : height f ≡ 1 + at m i 3 = omega (arith, ap height (sym (made 0 One)) ∙ height-unary 0 x One t k l, ap height ei, ws i u .0) in
+      let st : size f ≡ 1 + at m i 4 = omega (arith, ap size (sym (made 0 One)) ∙ size-unary 0 x One t k l, ap size ei, ws i u .1) in
       record { next = record { wf = z; tall = height f; wide = size f; row = one k l u refl ht st tall wide }; here = here }
 
 -- what is entered of a formula, by its parts

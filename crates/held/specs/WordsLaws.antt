@@ -13,19 +13,11 @@ use lib.ListN.{getD, length, length-append, List·getD-append}
 use lib.Seq.{getD-at, ext-getD}
 use Rattle.logic.specs.Formula.{Formula, One, height, size, same, among}
 use Rattle.logic.specs.FormulaLaws.{same-self, different-same}
-use Rattle.held.specs.Signs.{node}
+use Rattle.logic.specs.Parts.{tag-of, name-of, left-part, right-part}
+use Rattle.logic.specs.PartsLaws.{tag-make, name-make, left-make, right-make}
+use Rattle.held.specs.Signs.{make, node}
 use Rattle.held.specs.SignsLaws.{
-  tagOf,
-  nameOf,
-  leftOf,
-  rightOf,
-  tag-low,
-  tag-mid,
-  tag-high,
-  name-node,
-  left-mid,
-  left-high,
-  right-mid,
+  node-make,
   height-low,
   height-mid,
   height-high,
@@ -84,9 +76,8 @@ row-low (name k l x y e f) = omega arith
 row-low (two k l x y e f u v) = omega arith
 row-low (one k l x y e f u v) = omega arith
 
-pub tag-node : (t a b : ℕ) (fs : List Formula) → t < 13 → tagOf (node t a b fs) ≡ t
-tag-node t a b fs l =
-    ⊎-elim (λ k. ⊎-elim (λ k'. tag-high a b fs t k' l) (λ l'. tag-mid a b fs t k l') (le-or-lt 11 t)) (λ l'. tag-low a b fs t l') (le-or-lt 6 t)
+pub tag-node : (t a b : ℕ) (fs : List Formula) → t < 13 → tag-of (node t a b fs) ≡ t
+tag-node t a b fs l = ap tag-of (node-make t a b fs) ∙ tag-make a (getD fs a One) (getD fs b One) t l
 
 -- the numbers of a row fit their words
 pub row-left-fits : {m : List ℕ} {n t a b h s : ℕ} → Row m n t a b h s → n ≤ most → a < 65536
@@ -133,26 +124,31 @@ pub record Different (fs : List Formula) (n : ℕ) : Type 0 where
 pub node-once :
     {m m' : List ℕ} {n t a b h s t' a' b' h' s' : ℕ} (fs : List Formula) → Different fs n → Row m n t a b h s → Row m' n t' a' b' h' s' → node t a b fs ≡ node t' a' b' fs →
     (t ≡ t') × ((a ≡ a') × (b ≡ b'))
-node-once {m} {m'} {n} {t} {a} {b} {h} {s} {t'} {a'} {b'} {h'} {s'} fs d r r' e = let q = sym (tag-node t a b fs (row-low r)) ∙ (ap tagOf e ∙ tag-node t' a' b' fs (row-low r')) in (q, parts r r' q)
+node-once {m} {m'} {n} {t} {a} {b} {h} {s} {t'} {a'} {b'} {h'} {s'} fs d r r' e = let q = sym (tag-node t a b fs (row-low r)) ∙ (ap tag-of e ∙ tag-node t' a' b' fs (row-low r')) in (q, parts r r' q)
   where
+    made : make t a (getD fs a One) (getD fs b One) ≡ make t' a' (getD fs a' One) (getD fs b' One)
+    made = sym (node-make t a b fs) ∙ e ∙ node-make t' a' b' fs
+
     parts : Row m n t a b h s → Row m' n t' a' b' h' s' → t ≡ t' → (a ≡ a') × (b ≡ b')
     parts (unit l₁ x₁ y₁ e₁ f₁) (unit l₂ x₂ y₂ e₂ f₂) q = (omega arith, omega arith)
     parts (unit l₁ x₁ y₁ e₁ f₁) (name k₂ l₂ x₂ y₂ e₂ f₂) q = absurd (omega arith)
     parts (unit l₁ x₁ y₁ e₁ f₁) (two k₂ l₂ x₂ y₂ e₂ f₂ u₂ v₂) q = absurd (omega arith)
     parts (unit l₁ x₁ y₁ e₁ f₁) (one k₂ l₂ x₂ y₂ e₂ f₂ u₂ v₂) q = absurd (omega arith)
     parts (name k₁ l₁ x₁ y₁ e₁ f₁) (unit l₂ x₂ y₂ e₂ f₂) q = absurd (omega arith)
-    parts (name k₁ l₁ x₁ y₁ e₁ f₁) (name k₂ l₂ x₂ y₂ e₂ f₂) q = (sym (name-node a b fs t k₁ l₁) ∙ (ap nameOf e ∙ name-node a' b' fs t' k₂ l₂), omega arith)
+    parts (name k₁ l₁ x₁ y₁ e₁ f₁) (name k₂ l₂ x₂ y₂ e₂ f₂) q = (sym (name-make a _ _ t k₁ l₁) ∙ ap name-of made ∙ name-make a' _ _ t' k₂ l₂, omega arith)
     parts (name k₁ l₁ x₁ y₁ e₁ f₁) (two k₂ l₂ x₂ y₂ e₂ f₂ u₂ v₂) q = absurd (omega arith)
     parts (name k₁ l₁ x₁ y₁ e₁ f₁) (one k₂ l₂ x₂ y₂ e₂ f₂ u₂ v₂) q = absurd (omega arith)
     parts (two k₁ l₁ x₁ y₁ e₁ f₁ u₁ v₁) (unit l₂ x₂ y₂ e₂ f₂) q = absurd (omega arith)
     parts (two k₁ l₁ x₁ y₁ e₁ f₁ u₁ v₁) (name k₂ l₂ x₂ y₂ e₂ f₂) q = absurd (omega arith)
-    parts (two k₁ l₁ x₁ y₁ e₁ f₁ u₁ v₁) (two k₂ l₂ x₂ y₂ e₂ f₂ u₂ v₂) q =
-        (d .once a a' x₁ x₂ (sym (left-mid a b fs t k₁ l₁) ∙ (ap leftOf e ∙ left-mid a' b' fs t' k₂ l₂)), d .once b b' y₁ y₂ (sym (right-mid a b fs t k₁ l₁) ∙ (ap rightOf e ∙ right-mid a' b' fs t' k₂ l₂)))
+    parts (two k₁ l₁ x₁ y₁ e₁ f₁ u₁ v₁) (two k₂ l₂ x₂ y₂ e₂ f₂ u₂ v₂) q = (
+      d .once a a' x₁ x₂ (sym (left-make a _ _ t k₁ (omega arith)) ∙ ap left-part made ∙ left-make a' _ _ t' k₂ (omega arith)),
+      d .once b b' y₁ y₂ (sym (right-make a _ _ t k₁ l₁) ∙ ap right-part made ∙ right-make a' _ _ t' k₂ l₂),
+    )
     parts (two k₁ l₁ x₁ y₁ e₁ f₁ u₁ v₁) (one k₂ l₂ x₂ y₂ e₂ f₂ u₂ v₂) q = absurd (omega arith)
     parts (one k₁ l₁ x₁ y₁ e₁ f₁ u₁ v₁) (unit l₂ x₂ y₂ e₂ f₂) q = absurd (omega arith)
     parts (one k₁ l₁ x₁ y₁ e₁ f₁ u₁ v₁) (name k₂ l₂ x₂ y₂ e₂ f₂) q = absurd (omega arith)
     parts (one k₁ l₁ x₁ y₁ e₁ f₁ u₁ v₁) (two k₂ l₂ x₂ y₂ e₂ f₂ u₂ v₂) q = absurd (omega arith)
-    parts (one k₁ l₁ x₁ y₁ e₁ f₁ u₁ v₁) (one k₂ l₂ x₂ y₂ e₂ f₂ u₂ v₂) q = (d .once a a' x₁ x₂ (sym (left-high a b fs t k₁ l₁) ∙ (ap leftOf e ∙ left-high a' b' fs t' k₂ l₂)), omega arith)
+    parts (one k₁ l₁ x₁ y₁ e₁ f₁ u₁ v₁) (one k₂ l₂ x₂ y₂ e₂ f₂ u₂ v₂) q = (d .once a a' x₁ x₂ (sym (left-make a _ _ t (omega arith) l₁) ∙ ap left-part made ∙ left-make a' _ _ t' (omega arith) l₂), omega arith)
 
 -- equal numbers, equal formulas
 module _ (m : List ℕ) (n : ℕ) (few : n ≤ most) (z : Rows m n) (o : Ordered m n) where

@@ -64,12 +64,12 @@ depth-bound (by-contraction _ _ _ _ _ _ d) = one-higher _ _ _ _ (depth-bound d)
 depth-bound (by-weakening _ _ _ _ _ _ d) = one-higher _ _ _ _ (depth-bound d)
 
 -- Conclusion
-spell-passed : {fs : List Formula} → Passed fs → spell-first fs ≡ fs
+pub spell-passed : {fs : List Formula} → Passed fs → spell-first fs ≡ fs
 unfolding spell-first
 spell-passed none-yet = refl
 spell-passed (and-passed {f = f} h ps) = rw (h, spell-passed ps)
 
-spell-at : {before : List Formula} (f : Formula) (after : List Formula) → Passed before → decomposable f ≡ true → spell-first (before ++ (f ∷ after)) ≡ before ++ (spell f ∷ after)
+pub spell-at : {before : List Formula} (f : Formula) (after : List Formula) → Passed before → decomposable f ≡ true → spell-first (before ++ (f ∷ after)) ≡ before ++ (spell f ∷ after)
 unfolding spell-first
 spell-at f after none-yet h = rw h
 spell-at f after (and-passed p ps) h = rw (p, spell-at f after ps h)

@@ -37,174 +37,128 @@ same-symmetric a b = go (same a b) refl
     go true e = sym (same-iff b a .1 (sym (same-iff a b .0 e)))
     go false e = sym (different-same b a (λ p. same-false a b e (sym p)))
 
+positive : (f : Formula) → (1 ≤ size f) × (1 ≤ height f)
+unfolding size height
+positive One = (omega arith, omega arith)
+positive Bottom = (omega arith, omega arith)
+positive Top = (omega arith, omega arith)
+positive Zero = (omega arith, omega arith)
+positive (Atom a) = (omega arith, omega arith)
+positive (NegAtom a) = (omega arith, omega arith)
+positive (Tensor a b) = (omega arith, omega arith)
+positive (Par a b) = (omega arith, omega arith)
+positive (With a b) = (omega arith, omega arith)
+positive (Plus a b) = (omega arith, omega arith)
+positive (Lolli a b) = (omega arith, omega arith)
+positive (OfCourse a) = (omega arith, omega arith)
+positive (WhyNot a) = (omega arith, omega arith)
+
 pub size-positive : (f : Formula) → 1 ≤ size f
-unfolding size
-size-positive One = omega arith
-size-positive Bottom = omega arith
-size-positive Top = omega arith
-size-positive Zero = omega arith
-size-positive (Atom a) = omega arith
-size-positive (NegAtom a) = omega arith
-size-positive (Tensor a b) = omega arith
-size-positive (Par a b) = omega arith
-size-positive (With a b) = omega arith
-size-positive (Plus a b) = omega arith
-size-positive (Lolli a b) = omega arith
-size-positive (OfCourse a) = omega arith
-size-positive (WhyNot a) = omega arith
+size-positive f = positive f .0
 
 pub height-positive : (f : Formula) → 1 ≤ height f
-unfolding height
-height-positive One = omega arith
-height-positive Bottom = omega arith
-height-positive Top = omega arith
-height-positive Zero = omega arith
-height-positive (Atom a) = omega arith
-height-positive (NegAtom a) = omega arith
-height-positive (Tensor a b) = omega arith
-height-positive (Par a b) = omega arith
-height-positive (With a b) = omega arith
-height-positive (Plus a b) = omega arith
-height-positive (Lolli a b) = omega arith
-height-positive (OfCourse a) = omega arith
-height-positive (WhyNot a) = omega arith
+height-positive f = positive f .1
 
--- size and height of a formula with two parts
-both-sizes : {a b c d : ℕ} → a ≡ c → b ≡ d → suc (a + b) ≡ suc (c + d)
-both-sizes p q = ap₂ (λ x y. suc (x + y)) p q
+-- ---- size and height, together
 
-both-heights : {a b c d : ℕ} → a ≡ c → b ≡ d → suc (max a b) ≡ suc (max c d)
-both-heights p q = ap₂ (λ x y. suc (max x y)) p q
+abbrev Weigh : Formula → Formula → Type 0
+Weigh f g = (size f ≡ size g) × (height f ≡ height g)
+
+-- of formulas with two parts, and with one
+two-weigh : {a b c d a′ b′ c′ d′ : ℕ} → (a ≡ c) × (a′ ≡ c′) → (b ≡ d) × (b′ ≡ d′) → (suc (a + b) ≡ suc (c + d)) × (suc (max a′ b′) ≡ suc (max c′ d′))
+two-weigh p q = (ap₂ (λ x y. suc (x + y)) (p .0) (q .0), ap₂ (λ x y. suc (max x y)) (p .1) (q .1))
+
+one-weighs : {a c a′ c′ : ℕ} → (a ≡ c) × (a′ ≡ c′) → (suc a ≡ suc c) × (suc a′ ≡ suc c′)
+one-weighs p = (ap suc (p .0), ap suc (p .1))
+
+negate-weighs : (f : Formula) → Weigh (negate f) f
+unfolding negate size height
+negate-weighs One = (refl, refl)
+negate-weighs Bottom = (refl, refl)
+negate-weighs Top = (refl, refl)
+negate-weighs Zero = (refl, refl)
+negate-weighs (Atom a) = (refl, refl)
+negate-weighs (NegAtom a) = (refl, refl)
+negate-weighs (Tensor a b) = two-weigh (negate-weighs a) (negate-weighs b)
+negate-weighs (Par a b) = two-weigh (negate-weighs a) (negate-weighs b)
+negate-weighs (With a b) = two-weigh (negate-weighs a) (negate-weighs b)
+negate-weighs (Plus a b) = two-weigh (negate-weighs a) (negate-weighs b)
+negate-weighs (Lolli a b) = two-weigh (refl, refl) (negate-weighs b)
+negate-weighs (OfCourse a) = one-weighs (negate-weighs a)
+negate-weighs (WhyNot a) = one-weighs (negate-weighs a)
 
 pub negate-size : (f : Formula) → size (negate f) ≡ size f
-unfolding negate size
-negate-size One = refl
-negate-size Bottom = refl
-negate-size Top = refl
-negate-size Zero = refl
-negate-size (Atom a) = refl
-negate-size (NegAtom a) = refl
-negate-size (Tensor a b) = both-sizes (negate-size a) (negate-size b)
-negate-size (Par a b) = both-sizes (negate-size a) (negate-size b)
-negate-size (With a b) = both-sizes (negate-size a) (negate-size b)
-negate-size (Plus a b) = both-sizes (negate-size a) (negate-size b)
-negate-size (Lolli a b) = both-sizes refl (negate-size b)
-negate-size (OfCourse a) = ap suc (negate-size a)
-negate-size (WhyNot a) = ap suc (negate-size a)
+negate-size f = negate-weighs f .0
 
 pub negate-height : (f : Formula) → height (negate f) ≡ height f
-unfolding negate height
-negate-height One = refl
-negate-height Bottom = refl
-negate-height Top = refl
-negate-height Zero = refl
-negate-height (Atom a) = refl
-negate-height (NegAtom a) = refl
-negate-height (Tensor a b) = both-heights (negate-height a) (negate-height b)
-negate-height (Par a b) = both-heights (negate-height a) (negate-height b)
-negate-height (With a b) = both-heights (negate-height a) (negate-height b)
-negate-height (Plus a b) = both-heights (negate-height a) (negate-height b)
-negate-height (Lolli a b) = both-heights refl (negate-height b)
-negate-height (OfCourse a) = ap suc (negate-height a)
-negate-height (WhyNot a) = ap suc (negate-height a)
+negate-height f = negate-weighs f .1
 
 mutual
-  unfolding desugar desugar-negation size
+  unfolding desugar desugar-negation size height
 
-  pub desugar-size : (f : Formula) → size (desugar f) ≡ size f
-  desugar-size One = refl
-  desugar-size Bottom = refl
-  desugar-size Top = refl
-  desugar-size Zero = refl
-  desugar-size (Atom a) = refl
-  desugar-size (NegAtom a) = refl
-  desugar-size (Tensor a b) = both-sizes (desugar-size a) (desugar-size b)
-  desugar-size (Par a b) = both-sizes (desugar-size a) (desugar-size b)
-  desugar-size (With a b) = both-sizes (desugar-size a) (desugar-size b)
-  desugar-size (Plus a b) = both-sizes (desugar-size a) (desugar-size b)
-  desugar-size (Lolli a b) = both-sizes (desugar-negation-size a) (desugar-size b)
-  desugar-size (OfCourse a) = ap suc (desugar-size a)
-  desugar-size (WhyNot a) = ap suc (desugar-size a)
+  desugar-weighs : (f : Formula) → Weigh (desugar f) f
+  desugar-weighs One = (refl, refl)
+  desugar-weighs Bottom = (refl, refl)
+  desugar-weighs Top = (refl, refl)
+  desugar-weighs Zero = (refl, refl)
+  desugar-weighs (Atom a) = (refl, refl)
+  desugar-weighs (NegAtom a) = (refl, refl)
+  desugar-weighs (Tensor a b) = two-weigh (desugar-weighs a) (desugar-weighs b)
+  desugar-weighs (Par a b) = two-weigh (desugar-weighs a) (desugar-weighs b)
+  desugar-weighs (With a b) = two-weigh (desugar-weighs a) (desugar-weighs b)
+  desugar-weighs (Plus a b) = two-weigh (desugar-weighs a) (desugar-weighs b)
+  desugar-weighs (Lolli a b) = two-weigh (desugar-negation-weighs a) (desugar-weighs b)
+  desugar-weighs (OfCourse a) = one-weighs (desugar-weighs a)
+  desugar-weighs (WhyNot a) = one-weighs (desugar-weighs a)
 
-  pub desugar-negation-size : (f : Formula) → size (desugar-negation f) ≡ size f
-  desugar-negation-size One = refl
-  desugar-negation-size Bottom = refl
-  desugar-negation-size Top = refl
-  desugar-negation-size Zero = refl
-  desugar-negation-size (Atom a) = refl
-  desugar-negation-size (NegAtom a) = refl
-  desugar-negation-size (Tensor a b) = both-sizes (desugar-negation-size a) (desugar-negation-size b)
-  desugar-negation-size (Par a b) = both-sizes (desugar-negation-size a) (desugar-negation-size b)
-  desugar-negation-size (With a b) = both-sizes (desugar-negation-size a) (desugar-negation-size b)
-  desugar-negation-size (Plus a b) = both-sizes (desugar-negation-size a) (desugar-negation-size b)
-  desugar-negation-size (Lolli a b) = both-sizes (desugar-size a) (desugar-negation-size b)
-  desugar-negation-size (OfCourse a) = ap suc (desugar-negation-size a)
-  desugar-negation-size (WhyNot a) = ap suc (desugar-negation-size a)
+  desugar-negation-weighs : (f : Formula) → Weigh (desugar-negation f) f
+  desugar-negation-weighs One = (refl, refl)
+  desugar-negation-weighs Bottom = (refl, refl)
+  desugar-negation-weighs Top = (refl, refl)
+  desugar-negation-weighs Zero = (refl, refl)
+  desugar-negation-weighs (Atom a) = (refl, refl)
+  desugar-negation-weighs (NegAtom a) = (refl, refl)
+  desugar-negation-weighs (Tensor a b) = two-weigh (desugar-negation-weighs a) (desugar-negation-weighs b)
+  desugar-negation-weighs (Par a b) = two-weigh (desugar-negation-weighs a) (desugar-negation-weighs b)
+  desugar-negation-weighs (With a b) = two-weigh (desugar-negation-weighs a) (desugar-negation-weighs b)
+  desugar-negation-weighs (Plus a b) = two-weigh (desugar-negation-weighs a) (desugar-negation-weighs b)
+  desugar-negation-weighs (Lolli a b) = two-weigh (desugar-weighs a) (desugar-negation-weighs b)
+  desugar-negation-weighs (OfCourse a) = one-weighs (desugar-negation-weighs a)
+  desugar-negation-weighs (WhyNot a) = one-weighs (desugar-negation-weighs a)
 
-mutual
-  unfolding desugar desugar-negation height
+pub desugar-size : (f : Formula) → size (desugar f) ≡ size f
+desugar-size f = desugar-weighs f .0
 
-  pub desugar-height : (f : Formula) → height (desugar f) ≡ height f
-  desugar-height One = refl
-  desugar-height Bottom = refl
-  desugar-height Top = refl
-  desugar-height Zero = refl
-  desugar-height (Atom a) = refl
-  desugar-height (NegAtom a) = refl
-  desugar-height (Tensor a b) = both-heights (desugar-height a) (desugar-height b)
-  desugar-height (Par a b) = both-heights (desugar-height a) (desugar-height b)
-  desugar-height (With a b) = both-heights (desugar-height a) (desugar-height b)
-  desugar-height (Plus a b) = both-heights (desugar-height a) (desugar-height b)
-  desugar-height (Lolli a b) = both-heights (desugar-negation-height a) (desugar-height b)
-  desugar-height (OfCourse a) = ap suc (desugar-height a)
-  desugar-height (WhyNot a) = ap suc (desugar-height a)
+pub desugar-height : (f : Formula) → height (desugar f) ≡ height f
+desugar-height f = desugar-weighs f .1
 
-  pub desugar-negation-height : (f : Formula) → height (desugar-negation f) ≡ height f
-  desugar-negation-height One = refl
-  desugar-negation-height Bottom = refl
-  desugar-negation-height Top = refl
-  desugar-negation-height Zero = refl
-  desugar-negation-height (Atom a) = refl
-  desugar-negation-height (NegAtom a) = refl
-  desugar-negation-height (Tensor a b) = both-heights (desugar-negation-height a) (desugar-negation-height b)
-  desugar-negation-height (Par a b) = both-heights (desugar-negation-height a) (desugar-negation-height b)
-  desugar-negation-height (With a b) = both-heights (desugar-negation-height a) (desugar-negation-height b)
-  desugar-negation-height (Plus a b) = both-heights (desugar-negation-height a) (desugar-negation-height b)
-  desugar-negation-height (Lolli a b) = both-heights (desugar-height a) (desugar-negation-height b)
-  desugar-negation-height (OfCourse a) = ap suc (desugar-negation-height a)
-  desugar-negation-height (WhyNot a) = ap suc (desugar-negation-height a)
+pub desugar-negation-size : (f : Formula) → size (desugar-negation f) ≡ size f
+desugar-negation-size f = desugar-negation-weighs f .0
+
+pub desugar-negation-height : (f : Formula) → height (desugar-negation f) ≡ height f
+desugar-negation-height f = desugar-negation-weighs f .1
+
+spell-weighs : (f : Formula) → Weigh (spell f) f
+unfolding spell size height
+spell-weighs One = (refl, refl)
+spell-weighs Bottom = (refl, refl)
+spell-weighs Top = (refl, refl)
+spell-weighs Zero = (refl, refl)
+spell-weighs (Atom a) = (refl, refl)
+spell-weighs (NegAtom a) = (refl, refl)
+spell-weighs (Tensor a b) = (refl, refl)
+spell-weighs (Par a b) = (refl, refl)
+spell-weighs (With a b) = (refl, refl)
+spell-weighs (Plus a b) = (refl, refl)
+spell-weighs (Lolli a b) = two-weigh (negate-weighs a) (refl, refl)
+spell-weighs (OfCourse a) = (refl, refl)
+spell-weighs (WhyNot a) = (refl, refl)
 
 pub spell-size : (f : Formula) → size (spell f) ≡ size f
-unfolding spell size
-spell-size One = refl
-spell-size Bottom = refl
-spell-size Top = refl
-spell-size Zero = refl
-spell-size (Atom a) = refl
-spell-size (NegAtom a) = refl
-spell-size (Tensor a b) = refl
-spell-size (Par a b) = refl
-spell-size (With a b) = refl
-spell-size (Plus a b) = refl
-spell-size (Lolli a b) = both-sizes (negate-size a) refl
-spell-size (OfCourse a) = refl
-spell-size (WhyNot a) = refl
+spell-size f = spell-weighs f .0
 
 pub spell-height : (f : Formula) → height (spell f) ≡ height f
-unfolding spell height
-spell-height One = refl
-spell-height Bottom = refl
-spell-height Top = refl
-spell-height Zero = refl
-spell-height (Atom a) = refl
-spell-height (NegAtom a) = refl
-spell-height (Tensor a b) = refl
-spell-height (Par a b) = refl
-spell-height (With a b) = refl
-spell-height (Plus a b) = refl
-spell-height (Lolli a b) = both-heights (negate-height a) refl
-spell-height (OfCourse a) = refl
-spell-height (WhyNot a) = refl
+spell-height f = spell-weighs f .1
 
 -- spelling out the top leaves no implication there
 pub spell-twice : (f : Formula) → spell (spell f) ≡ spell f

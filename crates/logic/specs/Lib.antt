@@ -17,6 +17,8 @@ pub mod Legal
 pub mod Strict
 pub mod LolliFree
 pub mod FormulaLaws
+pub mod PartsLaws
+pub mod VerifyLaws
 pub mod Built
 pub mod Found
 pub mod Conclusion

@@ -1,8 +1,8 @@
 -- The tests of strict mode find exactly what stands in a zone: the lemmas that the rules share. Assumes nothing.
-use mathlib.Core.Path.{_≡_, refl, sym, ap, ap₂, subst, _∙_}
+use mathlib.Core.Path.{_≡_, refl, sym, ap, subst, _∙_}
 use mathlib.Core.Logic.{_↔_, Iff·trans, Iff·and}
 use mathlib.Core.Bool.{Bool, true, false, _&&_, false≢true, So, and-eq-true-iff}
-use mathlib.Core.List.{List, [], _∷_, _++_, map}
+use mathlib.Core.List.{List, [], _∷_, _++_}
 use Prim.Native.Nat.{_+_, _≤_}
 use native.Mathlib.Omega.{arith}
 use Rattle.logic.specs.Formula.{Formula, One, Bottom, Top, Zero, Atom, NegAtom, Tensor, Par, With, Plus, Lolli, OfCourse, WhyNot, same, among, spell}
@@ -13,6 +13,7 @@ use Rattle.logic.specs.Legal.{as-number, times, plain, _≈_, _≋_}
 use Rattle.logic.specs.Bags.{counts-itself, same-bag-iff, same-map-iff}
 use Rattle.logic.specs.Key.{same-bag}
 use Rattle.logic.specs.Verify.{any}
+use Rattle.logic.specs.VerifyLaws.{any-map, any-same, among-any}
 use Rattle.logic.specs.Strict.{spelled, linear-same, in-linear}
 use Rattle.logic.specs.Principal.{Stands, Passing, Unspelled, Sign, Principal, Shared}
 
@@ -60,22 +61,12 @@ module _ (g : Formula → Formula) (twice : (f : Formula) → g (g f) ≡ g f) w
   any-iff test xs = (any-passing test xs, λ p. counted-any test (p .here) (p .passes) xs (stands-counted (p .fixed) (p .stands)))
 
 -- Tests over a zone that is read through spell first
-any-map : (g : Formula → Formula) (test : Formula → Bool) (xs : List Formula) → any test (map g xs) ≡ any (λ y. test (g y)) xs
-unfolding any
-any-map g test [] = refl
-any-map g test (x ∷ xs) = ap (λ b. elim (test (g x)) as (λ _. Bool) [ true ↦ true | false ↦ b ]) (any-map g test xs)
-
 spelled-any-iff : (test : Formula → Bool) (xs : List Formula) → So (any test (spelled xs)) ↔ Passing spell test xs
 spelled-any-iff test xs = rw any-map (any-iff spell spell-twice test xs)
 
 pub linear-same-iff : (xs ys : List Formula) → So (linear-same xs ys) ↔ (xs ≈ ys)
 unfolding linear-same
 linear-same-iff = same-map-iff spell
-
-among-any : (x : Formula) (xs : List Formula) → among x xs ≡ any (same x) xs
-unfolding among any
-among-any x [] = refl
-among-any x (y ∷ ys) = ap (λ b. elim (same x y) as (λ _. Bool) [ true ↦ true | false ↦ b ]) (among-any x ys)
 
 -- a formula stands in a linear zone where its spelled form does
 respelled : {x y : Formula} {xs : List Formula} → spell x ≡ spell y → Stands spell x xs → Stands spell y xs
@@ -108,13 +99,8 @@ test-spell test h Zero = refl
 test-spell test h (OfCourse a) = refl
 test-spell test h (WhyNot a) = refl
 
-any-spell : (test : Formula → Bool) → Unspelled test → (xs : List Formula) → any (λ y. test (spell y)) xs ≡ any test xs
-unfolding any
-any-spell test h [] = refl
-any-spell test h (x ∷ xs) = ap₂ (λ b c. elim b as (λ _. Bool) [ true ↦ true | false ↦ c ]) (test-spell test h x) (any-spell test h xs)
-
 pub unspelled-any-iff : (test : Formula → Bool) → Unspelled test → (xs : List Formula) → So (any test xs) ↔ Passing spell test xs
-unspelled-any-iff test h xs = subst (λ b. So b ↔ Passing spell test xs) (any-spell test h xs) (any-iff spell spell-twice test xs)
+unspelled-any-iff test h xs = subst (λ b. So b ↔ Passing spell test xs) (any-same (test-spell test h) xs) (any-iff spell spell-twice test xs)
 
 pub unspelled-among-iff : (x : Formula) → Unspelled (same x) → spell x ≡ x → (xs : List Formula) → So (among x xs) ↔ Stands spell x xs
 unspelled-among-iff x h e xs = rw among-any (Iff·trans (unspelled-any-iff (same x) h xs) (found, shown))

@@ -30,7 +30,38 @@ fn put_number(n: usize) {
     io::print_decimal(STDOUT_FILENO, n as u64);
 }
 
-// The names of proof.rs.
+// The names of proof.rs: the last three rules, of focusing.
+fn put_focus(rule: u8) {
+    match rule {
+        15 => put(b"FocusPositive"),
+        16 => put(b"FocusNegative"),
+        _ => put(b"Blur"),
+    }
+}
+
+// From the exponential rules on.
+fn put_exponential(rule: u8) {
+    match rule {
+        10 => put(b"OfCourseIntro"),
+        11 => put(b"WhyNotIntro"),
+        12 => put(b"Weakening"),
+        13 => put(b"Contraction"),
+        14 => put(b"Dereliction"),
+        _ => put_focus(rule),
+    }
+}
+
+// From the additive rules on.
+fn put_additive(rule: u8) {
+    match rule {
+        6 => put(b"TopIntro"),
+        7 => put(b"WithIntro"),
+        8 => put(b"PlusIntroLeft"),
+        9 => put(b"PlusIntroRight"),
+        _ => put_exponential(rule),
+    }
+}
+
 fn put_rule(rule: u8) {
     match rule {
         0 => put(b"Axiom"),
@@ -39,18 +70,7 @@ fn put_rule(rule: u8) {
         3 => put(b"BottomIntro"),
         4 => put(b"TensorIntro"),
         5 => put(b"ParIntro"),
-        6 => put(b"TopIntro"),
-        7 => put(b"WithIntro"),
-        8 => put(b"PlusIntroLeft"),
-        9 => put(b"PlusIntroRight"),
-        10 => put(b"OfCourseIntro"),
-        11 => put(b"WhyNotIntro"),
-        12 => put(b"Weakening"),
-        13 => put(b"Contraction"),
-        14 => put(b"Dereliction"),
-        15 => put(b"FocusPositive"),
-        16 => put(b"FocusNegative"),
-        _ => put(b"Blur"),
+        _ => put_additive(rule),
     }
 }
 
@@ -127,39 +147,41 @@ fn put_tree(s: &[u8], text: &mut [u8]) {
     }
 }
 
+// A number behind its name.
+fn put_named(name: &[u8], n: usize) {
+    put(name);
+    put_number(n);
+}
+
 fn put_answer(number: u8, c: Counters) {
-    put(b"answer ");
-    put_number(number as usize);
-    put(b"\nexplored ");
-    put_number(c.explored);
-    put(b" hits ");
-    put_number(c.hits);
-    put(b" depth ");
-    put_number(c.reached);
+    put_named(b"answer ", number as usize);
+    put_named(b"\nexplored ", c.explored);
+    put_named(b" hits ", c.hits);
+    put_named(b" depth ", c.reached);
     put(b"\n");
+}
+
+// The answer in a memory that holds nothing. The tree goes to the front of `tree`.
+fn asked(question: &[u8], tree: &mut [u8]) -> Answer {
+    let mut mem = [0u16; memory::WORDS];
+    memory::reset(&mut mem);
+    let mut work = [0u64; BUDGET];
+    prover::prove(question, DEPTH, BUDGET, true, &mut mem, &mut work, tree)
+}
+
+fn put_nodes(tree: &[u8]) {
+    let mut text = [0u8; TEXT];
+    put_tree(tree, &mut text);
 }
 
 fn main() {
     let mut question = [0u8; MESSAGE];
     let n = io::read_full(STDIN_FILENO, &mut question);
-    let mut mem = [0u16; memory::WORDS];
-    memory::reset(&mut mem);
-    let mut work = [0u64; BUDGET];
     let mut tree = [0u8; MESSAGE];
-    let answer = prover::prove(
-        &question[..n],
-        DEPTH,
-        BUDGET,
-        true,
-        &mut mem,
-        &mut work,
-        &mut tree,
-    );
-    match answer {
+    match asked(&question[..n], &mut tree) {
         Answer::Found(_, c) => {
             put_answer(0, c);
-            let mut text = [0u8; TEXT];
-            put_tree(&tree, &mut text);
+            put_nodes(&tree);
         }
         Answer::Nothing(c) => put_answer(1, c),
         Answer::Refused(why, c) => put_answer(formula::number(why), c),

@@ -20,8 +20,8 @@ use Rattle.failures.specs.Items.{key-items, Names, listed, Lists}
 use Rattle.failures.specs.Failed as failures
 use Rattle.failures.specs.Failed.{NotedAs}
 use Rattle.failures.specs.FailedLaws.{known-contains, noted-keys}
-use Rattle.failures.specs.Records.{tally, Sized, WfFailures, Among, NotedTo}
-use Rattle.failures.specs.RecordsLaws.{wf-sized}
+use Rattle.failures.specs.Records.{tally, Kept, WfFailures, Among, NotedTo}
+use Rattle.failures.specs.RecordsLaws.{wf-kept}
 use Rattle.memory.specs.Meaning.{formula-words, holds, held-count, told, failed, Wf, Stands-in, key-of}
 use Rattle.memory.specs.MeaningLaws.{wf-length, extends-grew}
 use Rattle.memory.specs.PartsLaws.{back-lent, back-changed, back-put}
@@ -32,8 +32,8 @@ pub sequent-named : {m : List ℕ} {z : Zones} → Wf m → Stands-in m z → Na
 unfolding held-count
 sequent-named w s = record { wf = w .formulas; fits = s .fits; within = s .within }
 
-pub lent-sized : (m : List ℕ) → Wf m → Sized (lent m) (tally (lent m))
-lent-sized m w = rw (back-lent 12289 m) (wf-sized (w .failures))
+pub lent-kept : (m : List ℕ) → Wf m → Kept (lent m) (tally (lent m))
+lent-kept m w = rw (back-lent 12289 m) (wf-kept (w .failures))
 
 -- what became of a failure, by its tag
 abbrev tag : Noted → ℕ

@@ -14,7 +14,7 @@ use Rattle.failures.specs.Failed as failures
 
 -- the two parts, and how many words there are together
 abbrev pub words : ℕ
-words = 44290
+words = 45290
 
 abbrev pub formula-words : List ℕ → List ℕ
 formula-words m = take 12289 m

@@ -80,7 +80,8 @@ pub record FormulaWords (m : List ℕ) (i : ℕ) : Type 0 where
   pub no-left : tag-of m i < 4 → left-of m i ≡ 0
   pub no-right : (tag-of m i < 6) ⊎ (11 ≤ tag-of m i) → right-of m i ≡ 0
 
--- how all is written: as many words as there must be, the order words by rising tag, left and right, and zero wherever nothing is held
+-- how all is written: as many words as there must be, the formulas' order words by rising tag, left and right, the failures' by rising number of items and then item by item, and zero
+-- wherever nothing is held
 pub record Layout (m : List ℕ) : Type 0 where
   pub sized : length m ≡ words
   pub formula : (i : ℕ) → i < held-count m → FormulaWords m i
@@ -88,4 +89,6 @@ pub record Layout (m : List ℕ) : Type 0 where
   pub no-formula : Zeros (formula-words m) (1 + 5 * held-count m) 10241
   pub no-order : Zeros (formula-words m) (10241 + held-count m) 12289
   pub no-item : (i : ℕ) → i < failed-count m → Zeros (failure-words m) (2 + 32 * i + item-count m i) (33 + 32 * i)
+  pub failure-order : records.Ordered (failure-words m) (failed-count m)
   pub no-failure : Zeros (failure-words m) (1 + 32 * failed-count m) 32001
+  pub no-failure-order : Zeros (failure-words m) (32001 + failed-count m) 33001

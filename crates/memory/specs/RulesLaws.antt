@@ -19,6 +19,7 @@ use Rattle.held.specs.WordsLaws.{held-at, held-prefix, row-low, row-left-fits, 
 use Rattle.held.proofs.RowSteps.{row-short, row-single, row-left, row-right}
 use Rattle.failures.specs.Items.{Item}
 use Rattle.failures.specs.ItemsLaws.{why-not-told, why-not-tag}
+use Rattle.failures.specs.OrderLaws.{wf-different}
 use Rattle.failures.specs.Records as records
 use Rattle.failures.specs.RecordsLaws.{items-listing, listing-item, listing-next}
 use Rattle.memory.specs.Meaning.{formula-words, failure-words, held-count, told, Wf}
@@ -95,7 +96,7 @@ module _ (m : List ℕ) (w : Wf m) where
         formula = formula-rules;
         formula-once = λ i j u v e. number-once (formula-words m) (w .formulas) i j u v .0 e;
         failure = failure-rules;
-        failure-once = λ i j u v e. ⊎-elim (λ l. ⊎-elim (λ k. omega arith) (λ k. absurd (w .failures .once .apart j i k u (sym e))) (le-or-lt i j)) (λ l. absurd (w .failures .once .apart i j l v e)) (le-or-lt j i);
+        failure-once = λ i j u v e. ⊎-elim (λ l. ⊎-elim (λ k. omega arith) (λ k. absurd (wf-different (w .failures) .apart j i k u (sym e))) (le-or-lt i j)) (λ l. absurd (wf-different (w .failures) .apart i j l v e)) (le-or-lt j i);
       }
 
   pub wf-layout : Layout m
@@ -108,7 +109,9 @@ module _ (m : List ℕ) (w : Wf m) where
         no-formula = w .formulas .rest;
         no-order = w .formulas .unused;
         no-item = λ i l. w .failures .failures .stands i l .rest;
+        failure-order = w .failures .order;
         no-failure = w .failures .rest;
+        no-failure-order = w .failures .unused;
       }
 
 -- and the other way round
@@ -122,7 +125,7 @@ module _ (m : List ℕ) (rules : Rules m) (layout : Layout m) where
   front-sized : length fs ≡ 12289
   front-sized = length-take-le 12289 m (omega (arith, layout .sized))
 
-  back-sized : length gs ≡ 32001
+  back-sized : length gs ≡ 33001
   back-sized = length-drop 12289 m ∙ omega (arith, layout .sized)
 
   -- a part of formula i, as the list before i has it, weighs what is noted
@@ -227,8 +230,9 @@ module _ (m : List ℕ) (rules : Rules m) (layout : Layout m) where
               sized = back-sized;
               few = rules .failures-few;
               failures = record { stands = stands };
-              once = record { apart = λ i j l u e. let q = rules .failure-once i j (omega arith) u e in absurd (omega arith) };
+              order = layout .failure-order;
               rest = layout .no-failure;
+              unused = layout .no-failure-order;
             };
       }
 

@@ -66,9 +66,9 @@ module _ (m : List ℕ) (z : Emptied m) where
   formula-zero zero l = no-formulas
   formula-zero (suc k) l = ⊎-elim (λ h. z .wf .formulas .unused .zero (suc k) (omega (arith, no-formulas)) l) (λ h. z .wf .formulas .rest .zero (suc k) (omega (arith, no-formulas)) h) (le-or-lt 10241 (suc k))
 
-  failure-zero : (k : ℕ) → k < 32001 → getD (failure-words m) k 0 ≡ 0
+  failure-zero : (k : ℕ) → k < 33001 → getD (failure-words m) k 0 ≡ 0
   failure-zero zero l = no-failures
-  failure-zero (suc k) l = z .wf .failures .rest .zero (suc k) (omega (arith, no-failures)) l
+  failure-zero (suc k) l = ⊎-elim (λ h. z .wf .failures .unused .zero (suc k) (omega (arith, no-failures)) l) (λ h. z .wf .failures .rest .zero (suc k) (omega (arith, no-failures)) h) (le-or-lt 32001 (suc k))
 
   pub emptied-zero : (k : ℕ) → k < words → getD m k 0 ≡ 0
   emptied-zero k l = ⊎-elim back front (le-or-lt 12289 k)

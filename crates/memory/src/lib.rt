@@ -9,7 +9,7 @@ ghost use Rattle.memory.specs.Meaning.{Wf, ResetTo};
 // How many words the formulas take, and how many there are together.
 pub const FORMULAS: usize = 12289;
 
-pub const WORDS: usize = 44290;
+pub const WORDS: usize = 45290;
 
 // Document 01's number of the refusal of a lent memory.
 pub const WRONG_MEMORY: u8 = 12;

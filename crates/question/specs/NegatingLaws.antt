@@ -4,8 +4,8 @@ use mathlib.Core.List.{List, [], _∷_, _++_, map, map-append, append-nil, appen
 use Prim.Native.Nat.{ℕ, _+_, _-_, _≤_, _<_}
 use native.Mathlib.Omega.{arith}
 use borrow.Author.Tests.{le-leb}
-use lib.ListN.{length, take, drop, length-append, length-drop, take-append-drop, drop-of-length-le}
-use lib.Seq.{slice, sets, sets-eq, take-at, length-sets, length-slice, length-take-le, drop-append-le, drop-drop, drop-at}
+use lib.ListN.{length, take, drop, length-append, length-drop, drop-of-length-le}
+use lib.Seq.{slice, sets, sets-eq, take-at, length-sets, length-slice, length-take-le, drop-drop, drop-at}
 use Rattle.logic.specs.Formula.{Formula, negate, size}
 use Rattle.logic.specs.FormulaLaws.{size-positive, negate-size}
 use Rattle.wire.specs.Write.{write-formula, write-formulas}
@@ -13,7 +13,7 @@ use Rattle.wire.specs.Read.{got, read-formula, highest-formula, read-all}
 use Rattle.wire.specs.Fits.{FormulaFits, FormulasFit}
 use Rattle.wire.specs.FormulaBytes.{length-write, read-write}
 use Rattle.wire.specs.MessageBytes.{read-write-one}
-use Rattle.wire.specs.ZoneBytes.{length-write-formulas}
+use Rattle.wire.specs.ZoneBytes.{length-write-formulas, write-formulas-append, write-formulas-one, drop-split}
 use Rattle.formula.specs.Answers.{reads}
 use Rattle.formula.specs.Calls.{left-in, Writes}
 use Rattle.formula.specs.RewritingLaws.{sets-append}
@@ -27,11 +27,6 @@ use Rattle.question.specs.Negating.{negated, Negating}
 
 -- ---- formulas one after another
 
-pub write-formulas-append : (fs gs : List Formula) → write-formulas (fs ++ gs) ≡ write-formulas fs ++ write-formulas gs
-unfolding write-formulas
-write-formulas-append [] gs = refl
-write-formulas-append (f ∷ fs) gs = rw (write-formulas-append fs gs, append-assoc)
-
 -- negation keeps every byte's place
 pub negate-zone-size : (fs : List Formula) → zone-size (map negate fs) ≡ zone-size fs
 unfolding write-formulas
@@ -39,16 +34,12 @@ negate-zone-size [] = refl
 negate-zone-size (f ∷ fs) =
     length-write-formulas (negate f) (map negate fs) ∙ rw (negate-size f, negate-zone-size fs) (sym (length-write-formulas f fs))
 
-write-one : (f : Formula) → write-formulas (f ∷ []) ≡ write-formula f
-unfolding write-formulas
-write-one f = append-nil (write-formula f)
-
 -- one formula more
 negated-more : (fs : List Formula) (f : Formula) → write-formulas (map negate (fs ++ (f ∷ []))) ≡ write-formulas (map negate fs) ++ write-formula (negate f)
-negated-more fs f = rw (map-append negate fs (f ∷ []), write-formulas-append (map negate fs) (negate f ∷ []), write-one (negate f))
+negated-more fs f = rw (map-append negate fs (f ∷ []), write-formulas-append (map negate fs) (negate f ∷ []), write-formulas-one (negate f))
 
 zone-size-more : (fs : List Formula) (f : Formula) → zone-size (fs ++ (f ∷ [])) ≡ zone-size fs + size f
-zone-size-more fs f = rw (write-formulas-append fs (f ∷ []), write-one f, length-append (write-formulas fs) (write-formula f), length-write f)
+zone-size-more fs f = rw (write-formulas-append fs (f ∷ []), write-formulas-one f, length-append (write-formulas fs) (write-formula f), length-write f)
 
 stored-more : (out : List ℕ) {last last′ : List ℕ} (at : ℕ) {p : ℕ} (fs : List Formula) (f : Formula) → p ≡ at + zone-size fs → last ≡ sets out at (write-formulas (map negate fs)) → last′ ≡ sets last p (write-formula (negate f))
     → last′ ≡ sets out at (write-formulas (map negate (fs ++ (f ∷ []))))
@@ -68,11 +59,6 @@ negate-stored out p q f {part} after inside e =
     let none : drop (length text) (take (q - p) (drop p out)) ≡ [] = drop-of-length-le (take (q - p) (drop p out)) {i = length text} (omega arith) in
     let whole : part ≡ text = e ∙ rw (left-in, fits, none, append-nil text) in
     rw (whole, drop-drop (q - p) p out, sets-eq text out p (omega arith), append-assoc, long)
-
--- what stands from a place on: up to `end`, and behind it
-drop-split : (s : List ℕ) (p end : ℕ) → p ≤ end → end ≤ length s → drop p s ≡ slice p end s ++ drop end s
-drop-split s p end h inside =
-    ap (drop p) (sym (take-append-drop end s)) ∙ drop-append-le p (take end s) (drop end s) (omega (arith, length-take-le end s inside))
 
 -- ---- the loop
 

@@ -17,7 +17,8 @@ use Rattle.question.specs.Answers.{kind-of, zone-size, places-of, turned
 use Rattle.question.specs.Found.{Cut, Found}
 use Rattle.question.specs.FoundLaws.{laid-out, question-length, body-length, found-at}
 use Rattle.question.specs.Negating.{negated, Negatable}
-use Rattle.question.specs.NegatingLaws.{write-formulas-append, negate-zone-size}
+use Rattle.wire.specs.ZoneBytes.{write-formulas-append}
+use Rattle.question.specs.NegatingLaws.{negate-zone-size}
 use Rattle.question.specs.Turning.{head-of, TwoSided}
 
 pub two-stored : (out : List ℕ) (at n : ℕ) {h l : ℕ} → h ≡ n / 256 → l ≡ n % 256 → set (set out at h) (at + 1) l ≡ sets out at (two-bytes n)

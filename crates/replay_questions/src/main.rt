@@ -56,34 +56,52 @@ fn row(s: &[u8], room: usize, expected: u8) -> bool {
     told(question::to_one_sided(s, &mut out[..n])) == expected
 }
 
-// Fewer than three bytes 3, version 2, length 3, no kind 3, an unknown one 2.
-fn heads() -> Tally {
-    Tally::new()
-        .with(row(b"", 0, 3))
-        .with(row(b"\x02\x00", 0, 3))
-        .with(row(b"\x02\x00\x09", 0, 2))
-        .with(row(b"\x01\x00\x09", 0, 3))
-        .with(row(b"\x01\x00\x00", 0, 3))
-        .with(row(b"\x01\x00\x01\x00", 0, 2))
-        .with(row(b"\x01\x00\x01\x03", 0, 2))
-        .with(row(b"\x01\x00\x01\x01", 0, 3))
-        .with(row(b"\x01\x00\x05\x01\x00\x00\x00\x00", 8, 0))
-        .with(row(b"\x01\x00\x05\x01\x00\x00\x00\x00\x00", ROOM, 3))
+// Fewer than three bytes 3, version 2, length 3, no kind 3.
+fn frames(tally: Tally) -> Tally {
+    let mut t = tally;
+    t = t.with(row(b"", 0, 3));
+    t = t.with(row(b"\x02\x00", 0, 3));
+    t = t.with(row(b"\x02\x00\x09", 0, 2));
+    t = t.with(row(b"\x01\x00\x09", 0, 3));
+    t.with(row(b"\x01\x00\x00", 0, 3))
 }
 
-// Both zones' lengths and bytes left over 3, before any formula; then the formulas in byte order, each up to its own zone's end; then 10.
+// An unknown kind 2, no zone 3, bytes left over 3.
+fn kinds(tally: Tally) -> Tally {
+    let mut t = tally;
+    t = t.with(row(b"\x01\x00\x01\x00", 0, 2));
+    t = t.with(row(b"\x01\x00\x01\x03", 0, 2));
+    t = t.with(row(b"\x01\x00\x01\x01", 0, 3));
+    t = t.with(row(b"\x01\x00\x05\x01\x00\x00\x00\x00", 8, 0));
+    t.with(row(b"\x01\x00\x05\x01\x00\x00\x00\x00\x00", ROOM, 3))
+}
+
+fn heads() -> Tally {
+    kinds(frames(Tally::new()))
+}
+
+// Both zones' lengths and bytes left over 3, before any formula.
+fn lengths(tally: Tally) -> Tally {
+    let mut t = tally;
+    t = t.with(row(b"\x01\x00\x07\x01\x00\x01\x0D\x00\x00\x00", 0, 3));
+    t = t.with(row(b"\x01\x00\x06\x01\x00\x01\x0D\x00\x00", 0, 4));
+    t = t.with(row(b"\x01\x00\x06\x01\x00\x01\x0D\x00\x01", 0, 3));
+    t = t.with(row(b"\x01\x00\x08\x01\x00\x01\x06\x00\x02\x00\x00", 0, 3));
+    t.with(row(b"\x01\x00\x07\x01\x00\x02\x04\x00\x00\x00", 0, 3))
+}
+
+// The formulas in byte order, each up to its own zone's end; then 10.
+fn formulas(tally: Tally) -> Tally {
+    let mut t = tally;
+    t = t.with(row(b"\x01\x00\x07\x01\x00\x01\x04\x00\x01\x0D", 0, 3));
+    t = t.with(row(b"\x01\x00\x07\x02\x00\x01\x0D\x00\x01\x04", 0, 4));
+    t = t.with(row(b"\x01\x00\x06\x01\x00\x01\x00\x00\x00", 9, 0));
+    t = t.with(row(b"\x01\x00\x06\x01\x00\x01\x00\x00\x00", 8, 10));
+    t.with(row(b"\x01\x00\x06\x02\x00\x01\x00\x00\x00", 8, 10))
+}
+
 fn zones() -> Tally {
-    Tally::new()
-        .with(row(b"\x01\x00\x07\x01\x00\x01\x0D\x00\x00\x00", 0, 3))
-        .with(row(b"\x01\x00\x06\x01\x00\x01\x0D\x00\x00", 0, 4))
-        .with(row(b"\x01\x00\x06\x01\x00\x01\x0D\x00\x01", 0, 3))
-        .with(row(b"\x01\x00\x08\x01\x00\x01\x06\x00\x02\x00\x00", 0, 3))
-        .with(row(b"\x01\x00\x07\x01\x00\x02\x04\x00\x00\x00", 0, 3))
-        .with(row(b"\x01\x00\x07\x01\x00\x01\x04\x00\x01\x0D", 0, 3))
-        .with(row(b"\x01\x00\x07\x02\x00\x01\x0D\x00\x01\x04", 0, 4))
-        .with(row(b"\x01\x00\x06\x01\x00\x01\x00\x00\x00", 9, 0))
-        .with(row(b"\x01\x00\x06\x01\x00\x01\x00\x00\x00", 8, 10))
-        .with(row(b"\x01\x00\x06\x02\x00\x01\x00\x00\x00", 8, 10))
+    formulas(lengths(Tally::new()))
 }
 
 // A question of so many Ones in each zone, and behind them, in the second zone, one more tag.
@@ -107,14 +125,14 @@ fn ones(kind: u8, first: usize, second: usize, more: u8, expected: u8) -> bool {
 
 // 31 formulas and 32, told after all formulas, in both kinds.
 fn widths() -> Tally {
-    Tally::new()
-        .with(ones(1, 30, 0, 0, 0))
-        .with(ones(1, 31, 0, 0, 6))
-        .with(ones(1, 15, 16, 0, 6))
-        .with(ones(2, 15, 15, 0, 0))
-        .with(ones(2, 16, 15, 0, 6))
-        .with(ones(1, 32, 0, 13, 4))
-        .with(ones(2, 0, 31, 13, 4))
+    let mut t = Tally::new();
+    t = t.with(ones(1, 30, 0, 0, 0));
+    t = t.with(ones(1, 31, 0, 0, 6));
+    t = t.with(ones(1, 15, 16, 0, 6));
+    t = t.with(ones(2, 15, 15, 0, 0));
+    t = t.with(ones(2, 16, 15, 0, 6));
+    t = t.with(ones(1, 32, 0, 13, 4));
+    t.with(ones(2, 0, 31, 13, 4))
 }
 
 // A question of one formula, so many `!` and a tag.
@@ -138,15 +156,15 @@ fn high(kind: u8, levels: usize, tag: u8, expected: u8) -> bool {
 
 // Heights 64 and 65; past the last level no byte is told first, then the tag, the height, and a cut number.
 fn heights() -> Tally {
-    Tally::new()
-        .with(high(1, 63, 0, 0))
-        .with(high(2, 63, 0, 0))
-        .with(high(1, 64, 0, 5))
-        .with(high(2, 64, 0, 5))
-        .with(high(1, 63, 11, 3))
-        .with(high(1, 64, 13, 4))
-        .with(high(1, 64, 4, 5))
-        .with(high(1, 63, 4, 3))
+    let mut t = Tally::new();
+    t = t.with(high(1, 63, 0, 0));
+    t = t.with(high(2, 63, 0, 0));
+    t = t.with(high(1, 64, 0, 5));
+    t = t.with(high(2, 64, 0, 5));
+    t = t.with(high(1, 63, 11, 3));
+    t = t.with(high(1, 64, 13, 4));
+    t = t.with(high(1, 64, 4, 5));
+    t.with(high(1, 63, 4, 3))
 }
 
 fn main() {

@@ -62,12 +62,17 @@ fn replay() -> Tally {
     tally
 }
 
-fn main() {
-    replay().print(b" trees");
+// What is refused in reading, and what in checking.
+fn print_short() {
     settled::frames().print(b" settled answers at the frame");
     settled::nodes().print(b" settled answers at a node");
     settled::verdicts().print(b" settled verdicts");
     settled::steps().print(b" settled steps");
+}
+
+fn main() {
+    replay().print(b" trees");
+    print_short();
     settled::widths().print(b" settled answers at wide sequents");
     settled::chains().print(b" settled answers at high trees");
     settled::heights().print(b" settled answers at high formulas");

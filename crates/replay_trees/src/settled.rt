@@ -43,65 +43,90 @@ fn wrong_count(rule: usize, expected: usize, got: usize) -> Verdict {
     }
 }
 
-// Messages whose frame is wrong: fewer than three bytes 3, version 2, length 3, no node 3, leftover bytes 3 after all else.
-pub fn frames() -> Tally {
-    Tally::new()
-        .with(row(b"", bare(3)))
-        .with(row(b"\x02\x00", bare(3)))
-        .with(row(b"\x02\x00\x00", bare(2)))
-        .with(row(b"\x02\x00\x01\x00", bare(2)))
-        .with(row(b"\x01\x00\x00", bare(3)))
-        .with(row(b"\x01\x00\x01", bare(3)))
-        .with(row(b"\x01\x00\x04\x02\x00\x01\x0D\x00", bare(3)))
-        .with(row(b"\x01\x00\x05\x02\x00\x01\x0D\x00", bare(4)))
-        .with(row(b"\x01\x00\x07\x02\x00\x01\x00\x00\x00\x00", bare(0)))
-        .with(row(b"\x01\x00\x08\x02\x00\x01\x00\x00\x00\x00\x00", bare(3)))
+// The answer tells of no node.
+fn bare_row(s: &[u8], answer: usize) -> bool {
+    row(s, bare(answer))
 }
 
-// Nodes that cannot be read: rule 2, the argument, each zone's end 3 and its formulas, premise count 3. All reading ends before any checking.
+// Fewer than three bytes 3, version 2, no node 3.
+fn heads(tally: Tally) -> Tally {
+    let mut t = tally;
+    t = t.with(bare_row(b"", 3));
+    t = t.with(bare_row(b"\x02\x00", 3));
+    t = t.with(bare_row(b"\x02\x00\x00", 2));
+    t = t.with(bare_row(b"\x02\x00\x01\x00", 2));
+    t.with(bare_row(b"\x01\x00\x00", 3))
+}
+
+// Length 3, leftover bytes 3 after all else.
+fn lengths(tally: Tally) -> Tally {
+    let mut t = tally;
+    t = t.with(bare_row(b"\x01\x00\x01", 3));
+    t = t.with(bare_row(b"\x01\x00\x04\x02\x00\x01\x0D\x00", 3));
+    t = t.with(bare_row(b"\x01\x00\x05\x02\x00\x01\x0D\x00", 4));
+    t = t.with(bare_row(b"\x01\x00\x07\x02\x00\x01\x00\x00\x00\x00", 0));
+    t.with(bare_row(b"\x01\x00\x08\x02\x00\x01\x00\x00\x00\x00\x00", 3))
+}
+
+// Messages whose frame is wrong.
+pub fn frames() -> Tally {
+    lengths(heads(Tally::new()))
+}
+
+// Rule 2, the argument.
+fn rules(tally: Tally) -> Tally {
+    let mut t = tally;
+    t = t.with(bare_row(b"\x01\x00\x01\x12", 2));
+    t = t.with(bare_row(b"\x01\x00\x01\x02", 3));
+    t = t.with(bare_row(b"\x01\x00\x02\x01\x06", 3));
+    t = t.with(bare_row(b"\x01\x00\x02\x01\x0D", 4));
+    t.with(bare_row(b"\x01\x00\x02\x0F\x00", 3))
+}
+
+// Each zone's end 3 and its formulas, premise count 3. All reading ends before any checking.
+fn zones(tally: Tally) -> Tally {
+    let mut t = tally;
+    t = t.with(bare_row(b"\x01\x00\x04\x02\x00\x01\x0D", 4));
+    t = t.with(bare_row(b"\x01\x00\x04\x02\x00\x02\x0D", 3));
+    t = t.with(bare_row(b"\x01\x00\x09\x02\x00\x01\x06\x00\x02\x00\x00\x00", 3));
+    t = t.with(bare_row(b"\x01\x00\x08\x02\x00\x02\x04\x00\x00\x00\x00", 3));
+    t = t.with(bare_row(b"\x01\x00\x05\x02\x00\x00\x00\x00", 3));
+    t.with(bare_row(
+        b"\x01\x00\x0D\x02\x00\x03\x04\x00\x01\x00\x00\x01\x02\x00\x01\x0D",
+        4,
+    ))
+}
+
+// Nodes that cannot be read.
 pub fn nodes() -> Tally {
-    Tally::new()
-        .with(row(b"\x01\x00\x01\x12", bare(2)))
-        .with(row(b"\x01\x00\x01\x02", bare(3)))
-        .with(row(b"\x01\x00\x02\x01\x06", bare(3)))
-        .with(row(b"\x01\x00\x02\x01\x0D", bare(4)))
-        .with(row(b"\x01\x00\x02\x0F\x00", bare(3)))
-        .with(row(b"\x01\x00\x04\x02\x00\x01\x0D", bare(4)))
-        .with(row(b"\x01\x00\x04\x02\x00\x02\x0D", bare(3)))
-        .with(row(b"\x01\x00\x09\x02\x00\x01\x06\x00\x02\x00\x00\x00", bare(3)))
-        .with(row(b"\x01\x00\x08\x02\x00\x02\x04\x00\x00\x00\x00", bare(3)))
-        .with(row(b"\x01\x00\x05\x02\x00\x00\x00\x00", bare(3)))
-        .with(row(
-            b"\x01\x00\x0D\x02\x00\x03\x04\x00\x01\x00\x00\x01\x02\x00\x01\x0D",
-            bare(4),
-        ))
+    zones(rules(Tally::new()))
 }
 
 // Trees that can be read. OneIntro over a1 with one premise; TensorIntro with one premise and no tensor; Cut with none; ParIntro over a lone implication; Blur and FocusPositive over empty zones, and over a failing node.
 pub fn verdicts() -> Tally {
-    Tally::new()
-        .with(row(
-            b"\x01\x00\x10\x02\x00\x03\x04\x00\x01\x00\x00\x01\x02\x00\x01\x00\x00\x00\x00",
-            failed(13, 2, 0, 0),
-        ))
-        .with(row(
-            b"\x01\x00\x10\x04\x00\x03\x04\x00\x01\x00\x00\x01\x02\x00\x01\x00\x00\x00\x00",
-            wrong_count(4, 2, 1),
-        ))
-        .with(row(
-            b"\x01\x00\x07\x01\x00\x00\x00\x00\x00\x00",
-            wrong_count(1, 2, 0),
-        ))
-        .with(row(
-            b"\x01\x00\x14\x05\x00\x07\x0A\x04\x00\x01\x04\x00\x01\x00\x00\x01\x02\x00\x01\x00\x00\x00\x00",
-            failed(13, 5, 0, 0),
-        ))
-        .with(row(b"\x01\x00\x06\x11\x00\x00\x00\x00\x00", bare(0)))
-        .with(row(b"\x01\x00\x08\x0F\x00\x01\x00\x00\x00\x00\x00", bare(0)))
-        .with(row(
-            b"\x01\x00\x0C\x11\x00\x00\x00\x00\x01\x02\x00\x00\x00\x00\x00",
-            failed(13, 2, 1, 1),
-        ))
+    let mut t = Tally::new();
+    t = t.with(row(
+        b"\x01\x00\x10\x02\x00\x03\x04\x00\x01\x00\x00\x01\x02\x00\x01\x00\x00\x00\x00",
+        failed(13, 2, 0, 0),
+    ));
+    t = t.with(row(
+        b"\x01\x00\x10\x04\x00\x03\x04\x00\x01\x00\x00\x01\x02\x00\x01\x00\x00\x00\x00",
+        wrong_count(4, 2, 1),
+    ));
+    t = t.with(row(
+        b"\x01\x00\x07\x01\x00\x00\x00\x00\x00\x00",
+        wrong_count(1, 2, 0),
+    ));
+    t = t.with(row(
+        b"\x01\x00\x14\x05\x00\x07\x0A\x04\x00\x01\x04\x00\x01\x00\x00\x01\x02\x00\x01\x00\x00\x00\x00",
+        failed(13, 5, 0, 0),
+    ));
+    t = t.with(row(b"\x01\x00\x06\x11\x00\x00\x00\x00\x00", bare(0)));
+    t = t.with(row(b"\x01\x00\x08\x0F\x00\x01\x00\x00\x00\x00\x00", bare(0)));
+    t.with(row(
+        b"\x01\x00\x0C\x11\x00\x00\x00\x00\x01\x02\x00\x00\x00\x00\x00",
+        failed(13, 2, 1, 1),
+    ))
 }
 
 // The verdicts of both modes on the tree.
@@ -113,42 +138,42 @@ fn strict_row(s: &[u8], expected: Verdict, in_strict: Verdict) -> bool {
 // Steps in both modes: ParIntro that takes an implication beside a Par; Blur, which is no step; a step that is not legal over a node of the wrong shape; Cut at (a1⊸a2)⊸a3 with its plain negation, and with its premises in
 // the other order; Dereliction that keeps a copy, and that keeps none.
 pub fn steps() -> Tally {
-    Tally::new()
-        .with(strict_row(
-            b"\x01\x00\x29\x05\x00\x0F\x07\x04\x00\x02\x04\x00\x03\x0A\x04\x00\x01\x04\x00\x01\x02\x00\x00\x01\x06\x00\x0E\x07\x04\x00\x02\x04\x00\x03\x05\x00\x01\x04\x00\x01\x02\x00\x00\x00",
-            bare(0),
-            bare(0),
-        ))
-        .with(strict_row(
-            b"\x01\x00\x06\x11\x00\x00\x00\x00\x00",
-            bare(0),
-            failed(15, 17, 0, 0),
-        ))
-        .with(strict_row(
-            b"\x01\x00\x10\x03\x00\x01\x01\x00\x00\x01\x00\x00\x03\x04\x00\x01\x00\x00\x00",
-            failed(13, 0, 1, 1),
-            failed(15, 3, 0, 0),
-        ))
-        .with(strict_row(
-            b"\x01\x00\x37\x01\x0A\x0A\x04\x00\x01\x04\x00\x02\x04\x00\x03\x00\x02\x02\x02\x00\x00\x02\x06\x00\x0C\x0A\x0A\x04\x00\x01\x04\x00\x02\x04\x00\x03\x02\x00\x00\x00\x06\x00\x0C\x06\x0A\x04\x00\x01\x04\x00\x02\x05\x00\x03\x02\x00\x00\x00",
-            bare(0),
-            bare(0),
-        ))
-        .with(strict_row(
-            b"\x01\x00\x37\x01\x0A\x0A\x04\x00\x01\x04\x00\x02\x04\x00\x03\x00\x02\x02\x02\x00\x00\x02\x06\x00\x0C\x06\x0A\x04\x00\x01\x04\x00\x02\x05\x00\x03\x02\x00\x00\x00\x06\x00\x0C\x0A\x0A\x04\x00\x01\x04\x00\x02\x04\x00\x03\x02\x00\x00\x00",
-            bare(0),
-            failed(15, 1, 0, 0),
-        ))
-        .with(strict_row(
-            b"\x01\x00\x1B\x0E\x00\x03\x05\x00\x01\x00\x03\x04\x00\x01\x01\x00\x00\x06\x05\x00\x01\x04\x00\x01\x00\x03\x04\x00\x01\x00",
-            bare(0),
-            failed(15, 14, 0, 0),
-        ))
-        .with(strict_row(
-            b"\x01\x00\x18\x0E\x00\x03\x05\x00\x01\x00\x03\x04\x00\x01\x01\x00\x00\x06\x05\x00\x01\x04\x00\x01\x00\x00\x00",
-            bare(0),
-            bare(0),
-        ))
+    let mut t = Tally::new();
+    t = t.with(strict_row(
+        b"\x01\x00\x29\x05\x00\x0F\x07\x04\x00\x02\x04\x00\x03\x0A\x04\x00\x01\x04\x00\x01\x02\x00\x00\x01\x06\x00\x0E\x07\x04\x00\x02\x04\x00\x03\x05\x00\x01\x04\x00\x01\x02\x00\x00\x00",
+        bare(0),
+        bare(0),
+    ));
+    t = t.with(strict_row(
+        b"\x01\x00\x06\x11\x00\x00\x00\x00\x00",
+        bare(0),
+        failed(15, 17, 0, 0),
+    ));
+    t = t.with(strict_row(
+        b"\x01\x00\x10\x03\x00\x01\x01\x00\x00\x01\x00\x00\x03\x04\x00\x01\x00\x00\x00",
+        failed(13, 0, 1, 1),
+        failed(15, 3, 0, 0),
+    ));
+    t = t.with(strict_row(
+        b"\x01\x00\x37\x01\x0A\x0A\x04\x00\x01\x04\x00\x02\x04\x00\x03\x00\x02\x02\x02\x00\x00\x02\x06\x00\x0C\x0A\x0A\x04\x00\x01\x04\x00\x02\x04\x00\x03\x02\x00\x00\x00\x06\x00\x0C\x06\x0A\x04\x00\x01\x04\x00\x02\x05\x00\x03\x02\x00\x00\x00",
+        bare(0),
+        bare(0),
+    ));
+    t = t.with(strict_row(
+        b"\x01\x00\x37\x01\x0A\x0A\x04\x00\x01\x04\x00\x02\x04\x00\x03\x00\x02\x02\x02\x00\x00\x02\x06\x00\x0C\x06\x0A\x04\x00\x01\x04\x00\x02\x05\x00\x03\x02\x00\x00\x00\x06\x00\x0C\x0A\x0A\x04\x00\x01\x04\x00\x02\x04\x00\x03\x02\x00\x00\x00",
+        bare(0),
+        failed(15, 1, 0, 0),
+    ));
+    t = t.with(strict_row(
+        b"\x01\x00\x1B\x0E\x00\x03\x05\x00\x01\x00\x03\x04\x00\x01\x01\x00\x00\x06\x05\x00\x01\x04\x00\x01\x00\x03\x04\x00\x01\x00",
+        bare(0),
+        failed(15, 14, 0, 0),
+    ));
+    t.with(strict_row(
+        b"\x01\x00\x18\x0E\x00\x03\x05\x00\x01\x00\x03\x04\x00\x01\x01\x00\x00\x06\x05\x00\x01\x04\x00\x01\x00\x00\x00",
+        bare(0),
+        bare(0),
+    ))
 }
 
 // Blur over so many Ones in each zone; the message ends with its premise count or before it.
@@ -175,14 +200,14 @@ fn ones(linear: usize, unrestricted: usize, count: usize, answer: usize) -> bool
 
 // A sequent of 31 formulas and of 32, which is told before the premise count.
 pub fn widths() -> Tally {
-    Tally::new()
-        .with(ones(31, 0, 1, 0))
-        .with(ones(32, 0, 1, 6))
-        .with(ones(16, 15, 1, 0))
-        .with(ones(16, 16, 1, 6))
-        .with(ones(0, 32, 1, 6))
-        .with(ones(31, 0, 0, 3))
-        .with(ones(32, 0, 0, 6))
+    let mut t = Tally::new();
+    t = t.with(ones(31, 0, 1, 0));
+    t = t.with(ones(32, 0, 1, 6));
+    t = t.with(ones(16, 15, 1, 0));
+    t = t.with(ones(16, 16, 1, 6));
+    t = t.with(ones(0, 32, 1, 6));
+    t = t.with(ones(31, 0, 0, 3));
+    t.with(ones(32, 0, 0, 6))
 }
 
 // 66 Blur nodes, each the premise of the one before, six bytes a node.
@@ -220,12 +245,12 @@ fn chain(nodes: usize, count: u8, more: usize, answer: usize) -> bool {
 
 // A tree of height 65, and of 66, where no byte is told before the height, and the height before the rule.
 pub fn chains() -> Tally {
-    Tally::new()
-        .with(chain(65, 0, 0, 0))
-        .with(chain(66, 0, 0, 5))
-        .with(chain(65, 1, 0, 3))
-        .with(chain(65, 1, 1, 5))
-        .with(chain(65, 0, 1, 3))
+    let mut t = Tally::new();
+    t = t.with(chain(65, 0, 0, 0));
+    t = t.with(chain(66, 0, 0, 5));
+    t = t.with(chain(65, 1, 0, 3));
+    t = t.with(chain(65, 1, 1, 5));
+    t.with(chain(65, 0, 1, 3))
 }
 
 // Blur over so many `!` and a 1.
@@ -270,9 +295,9 @@ fn high_cut(levels: usize, expected: Verdict) -> bool {
 
 // Formulas of height 64 and 65, each counted from 1.
 pub fn heights() -> Tally {
-    Tally::new()
-        .with(high_zone(63, 0))
-        .with(high_zone(64, 5))
-        .with(high_cut(63, wrong_count(1, 2, 0)))
-        .with(high_cut(64, bare(5)))
+    let mut t = Tally::new();
+    t = t.with(high_zone(63, 0));
+    t = t.with(high_zone(64, 5));
+    t = t.with(high_cut(63, wrong_count(1, 2, 0)));
+    t.with(high_cut(64, bare(5)))
 }

@@ -41,6 +41,7 @@ use Rattle.logic.specs.Tree.{
   premise-count,
 }
 use Rattle.logic.specs.Verify.{Fault, any, axiom-shaped, one-shaped, need, need-shape, need-premises, shape-fault}
+use Rattle.logic.specs.VerifyLaws.{any-head, any-tail, any-map}
 use Rattle.logic.specs.Strict.{spelled, linear-same, keeps-zone, any-binary, any-unary, legal-step}
 use Rattle.strict.specs.Steps.{bottom-step, par-step, with-step, plus-step, tensor-step, of-course-step, why-not-step, takes-out, weakening-step, contraction-step, dereliction-step, cut-step}
 use Rattle.strict.specs.Steps.{step-by, one-test, two-test, Keeps, StepAt, SomeStep, CutIs, OnePremise, TwoPremises, LegalStep}
@@ -54,24 +55,12 @@ use Rattle.wire.specs.Fits.{NodesFit, NodesFit*}
 use Rattle.tree.specs.Stands.{Stands}
 use Rattle.tree.specs.StandsLaws.{stands-left, stands-right}
 use Rattle.tree.specs.Places.{Passed, rule-number, NodeIs, NodeFound, TreePassed}
+use Rattle.tree.specs.PlacesLaws.{cut-only}
 use Rattle.tree.specs.declared.Node.{Node}
 use Rattle.tree.specs.declared.Span.{Span}
 use Rattle.bags.specs.WalksLaws.{walk-start, walk-here, walk-next, walk-end}
 
 -- ---- a test over a list
-
-pub any-head : {A : Type 0} (test : A → Bool) (x : A) (xs : List A) → test x ≡ true → any test (x ∷ xs) ≡ true
-unfolding any
-any-head test x xs e = ap (λ (b : Bool). elim b as (λ _. Bool) [ true ↦ true | false ↦ any test xs ]) e
-
-pub any-tail : {A : Type 0} (test : A → Bool) (x : A) (xs : List A) → test x ≡ false → any test (x ∷ xs) ≡ any test xs
-unfolding any
-any-tail test x xs e = ap (λ (b : Bool). elim b as (λ _. Bool) [ true ↦ true | false ↦ any test xs ]) e
-
-any-spelled : (test : Formula → Bool) (xs : List Formula) → any test (spelled xs) ≡ any (λ x. test (spell x)) xs
-unfolding any
-any-spelled test [] = refl
-any-spelled test (x ∷ xs) = ap (λ (b : Bool). elim (test (spell x)) as (λ _. Bool) [ true ↦ true | false ↦ b ]) (any-spelled test xs)
 
 any-false : (test : Formula → Bool) (xs : List Formula) → any (λ x. test x && false) xs ≡ false
 unfolding any
@@ -165,11 +154,11 @@ module _ (q : Sequent) where
     one-legal : (r : Rule) → rule-number r ≤ 14 → shape-fault r q 1 ≡ none → one-test (rule-number r) q p ≡ legal-step r q (p ∷ [])
     unfolding rule-number shape-fault legal-step one-test step-by any-binary any-unary bottom-step par-step plus-step of-course-step why-not-step weakening-step contraction-step dereliction-step takes-out
     one-legal BottomIntro h e = keeps-first p (any-and (λ x. same (spell x) Bottom) (linear-same (q .linear) (Bottom ∷ p .linear)) (q .linear) (bottom-among (q .linear) (need-true _ _ _ e)))
-    one-legal ParIntro h e = keeps-first p (sym (any-spelled _ (q .linear)))
-    one-legal PlusIntroLeft h e = keeps-first p (sym (any-spelled _ (q .linear)))
-    one-legal PlusIntroRight h e = keeps-first p (sym (any-spelled _ (q .linear)))
-    one-legal OfCourseIntro h e = keeps-first p (sym (any-spelled _ (q .linear)))
-    one-legal WhyNotIntro h e = sym (any-spelled _ (q .linear))
+    one-legal ParIntro h e = keeps-first p (sym (any-map spell _ (q .linear)))
+    one-legal PlusIntroLeft h e = keeps-first p (sym (any-map spell _ (q .linear)))
+    one-legal PlusIntroRight h e = keeps-first p (sym (any-map spell _ (q .linear)))
+    one-legal OfCourseIntro h e = keeps-first p (sym (any-map spell _ (q .linear)))
+    one-legal WhyNotIntro h e = sym (any-map spell _ (q .linear))
     one-legal Weakening h e = refl
     one-legal Contraction h e = refl
     one-legal Dereliction h e = refl
@@ -191,8 +180,8 @@ module _ (q : Sequent) where
     two-legal : (r : Rule) → rule-number r ≤ 14 → shape-fault r q 2 ≡ none → two-test (rule-number r) (cut-formula r) q p p′ ≡ legal-step r q (p ∷ p′ ∷ [])
     unfolding rule-number shape-fault legal-step two-test step-by any-binary with-step tensor-step cut-step cut-formula
     two-legal (Cut c) h e = both-first p p′ refl
-    two-legal TensorIntro h e = both-first p p′ (sym (any-spelled _ (q .linear)))
-    two-legal WithIntro h e = both-first p p′ (sym (any-spelled _ (q .linear)))
+    two-legal TensorIntro h e = both-first p p′ (sym (any-map spell _ (q .linear)))
+    two-legal WithIntro h e = both-first p p′ (sym (any-map spell _ (q .linear)))
     two-legal Axiom h e = absurd (omega (arith, counted (axiom-shaped (q .linear)) 0 2 e))
     two-legal OneIntro h e = absurd (omega (arith, counted (one-shaped (q .linear)) 0 2 e))
     two-legal TopIntro h e = absurd (omega (arith, counted (among Top (q .linear)) 0 2 e))
@@ -414,25 +403,8 @@ module _ {s : List ℕ} (q : Node) where
 -- ---- the step at a node
 
 is-cut : (r : Rule) → rule-number r ≡ 1 → r ≡ Cut (cut-formula r)
-unfolding rule-number cut-formula
-is-cut (Cut c) e = refl
-is-cut Axiom e = absurd (omega arith)
-is-cut OneIntro e = absurd (omega arith)
-is-cut BottomIntro e = absurd (omega arith)
-is-cut TensorIntro e = absurd (omega arith)
-is-cut ParIntro e = absurd (omega arith)
-is-cut TopIntro e = absurd (omega arith)
-is-cut WithIntro e = absurd (omega arith)
-is-cut PlusIntroLeft e = absurd (omega arith)
-is-cut PlusIntroRight e = absurd (omega arith)
-is-cut OfCourseIntro e = absurd (omega arith)
-is-cut WhyNotIntro e = absurd (omega arith)
-is-cut Weakening e = absurd (omega arith)
-is-cut Contraction e = absurd (omega arith)
-is-cut Dereliction e = absurd (omega arith)
-is-cut (FocusPositive i) e = absurd (omega arith)
-is-cut (FocusNegative i) e = absurd (omega arith)
-is-cut Blur e = absurd (omega arith)
+unfolding cut-formula
+is-cut r e = let c = cut-only r e in c .1 ∙ ap Cut (sym (ap cut-formula (c .1)))
 
 module _ {s : List ℕ} {q : Node} where
   pub legal-past : 14 < q .rule → LegalStep s q false

@@ -6,12 +6,11 @@ use Prim.Native.Nat.{ℕ, _+_, _≤_, _<_}
 use lib.Dec.{eqb}
 use lib.ListN.{length}
 use Rattle.logic.specs.Formula.{Formula, spell, size, among}
-use Rattle.logic.specs.Parts.{left-part, right-part}
+use Rattle.logic.specs.Parts.{tag-of, left-part, right-part}
 use Rattle.logic.specs.Sequent.{Sequent}
 use Rattle.logic.specs.Strict.{spelled}
 use Rattle.tree.specs.Places.{FormulaAt, Holds, Within}
 use Rattle.tree.specs.declared.Node.{Node}
-use Rattle.bags.specs.Reading.{tag-of}
 use Rattle.bags.specs.Runs.{RunWithin, Reads}
 use Rattle.bags.specs.declared.Run.{Run}
 use Rattle.bags.specs.declared.How.{How}

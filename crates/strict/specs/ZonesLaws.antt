@@ -8,7 +8,8 @@ use borrow.Author.Tests.{ne-eqb, ltb-true, ltb-false, lt-ltb}
 use lib.Dec.{eqb, ltb}
 use lib.ListN.{length, getD, length-append}
 use Rattle.logic.specs.Formula.{Formula, One, Bottom, Top, Zero, Atom, NegAtom, Tensor, Par, With, Plus, Lolli, OfCourse, WhyNot, negate, spell, same, among, size}
-use Rattle.logic.specs.Parts.{left-part, right-part}
+use Rattle.logic.specs.Parts.{tag-of, left-part, right-part}
+use Rattle.logic.specs.PartsLaws.{left-make, right-make}
 use Rattle.logic.specs.Zone.{total}
 use Rattle.logic.specs.Legal.{as-number, times, plain}
 use Rattle.wire.specs.Write.{write-formula, write-formulas}
@@ -16,12 +17,13 @@ use Rattle.wire.specs.Fits.{NamesFit, FormulasFit}
 use Rattle.wire.specs.FormulaBytes.{length-write}
 use Rattle.tree.specs.Stands.{Stands}
 use Rattle.tree.specs.StandsLaws.{stands-left, stands-right}
+use Rattle.tree.specs.FormulaPlaces.{tag-stands}
 use Rattle.tree.specs.Places.{FormulaAt, Holds, NodeWithin}
 use Rattle.tree.specs.declared.Node.{Node}
 use Rattle.tree.specs.declared.Span.{Span}
-use Rattle.bags.specs.Reading.{read-as, tag-of, Rest, unit, named, binary, unary, rest-of, sign-of, left-how, right-how, rest-as}
-use Rattle.bags.specs.ReadingLaws.{read-tag, read-rest, read-follows, follows, two-follow, one-follows}
-use Rattle.bags.specs.ComparedLaws.{tag-here, ends-inside, one-here, two-here}
+use Rattle.bags.specs.Reading.{read-as, Rest, unit, named, binary, unary, rest-of, sign-of, left-how, right-how, rest-as}
+use Rattle.bags.specs.ReadingLaws.{read-tag, read-rest, read-follows, follows, two-follow, one-follows, two-formed, one-formed}
+use Rattle.bags.specs.ComparedLaws.{ends-inside, one-here, two-here}
 use Rattle.bags.specs.Runs.{RunWithin, Along, Reads, Counts}
 use Rattle.bags.specs.declared.Run.{Run}
 use Rattle.bags.specs.declared.Place.{Place}
@@ -108,62 +110,15 @@ module _ {s : List ℕ} {at : ℕ} (x : Formula) (here : FormulaAt s at x) where
       )
 
 -- the left part and the right part, by what follows
-rest-left : Rest → Formula → Formula
-rest-left unit f = f
-rest-left (named n) f = f
-rest-left (binary a b) f = a
-rest-left (unary a) f = a
-
-rest-right : Rest → Formula → Formula
-rest-right unit f = f
-rest-right (named n) f = f
-rest-right (binary a b) f = b
-rest-right (unary a) f = a
-
-left-part-is : (f : Formula) → left-part f ≡ rest-left (rest-of f) f
-unfolding left-part rest-left rest-of
-left-part-is One = refl
-left-part-is Bottom = refl
-left-part-is Top = refl
-left-part-is Zero = refl
-left-part-is (Atom a) = refl
-left-part-is (NegAtom a) = refl
-left-part-is (Tensor a b) = refl
-left-part-is (Par a b) = refl
-left-part-is (With a b) = refl
-left-part-is (Plus a b) = refl
-left-part-is (Lolli a b) = refl
-left-part-is (OfCourse a) = refl
-left-part-is (WhyNot a) = refl
-
-right-part-is : (f : Formula) → right-part f ≡ rest-right (rest-of f) f
-unfolding right-part rest-right rest-of
-right-part-is One = refl
-right-part-is Bottom = refl
-right-part-is Top = refl
-right-part-is Zero = refl
-right-part-is (Atom a) = refl
-right-part-is (NegAtom a) = refl
-right-part-is (Tensor a b) = refl
-right-part-is (Par a b) = refl
-right-part-is (With a b) = refl
-right-part-is (Plus a b) = refl
-right-part-is (Lolli a b) = refl
-right-part-is (OfCourse a) = refl
-right-part-is (WhyNot a) = refl
-
 module _ (f : Formula) where
-  pub left-of-two : {a b : Formula} → rest-of f ≡ binary a b → left-part f ≡ a
-  unfolding rest-left
-  left-of-two e = left-part-is f ∙ ap (λ r. rest-left r f) e
+  left-of-two : {a b : Formula} → rest-of f ≡ binary a b → left-part f ≡ a
+  left-of-two {a} {b} e = let k = rw e at (follows f) in ap left-part (two-formed f e) ∙ left-make 0 a b (tag-of f) (k .0) (omega (arith, k .1))
 
-  pub right-of-two : {a b : Formula} → rest-of f ≡ binary a b → right-part f ≡ b
-  unfolding rest-right
-  right-of-two e = right-part-is f ∙ ap (λ r. rest-right r f) e
+  right-of-two : {a b : Formula} → rest-of f ≡ binary a b → right-part f ≡ b
+  right-of-two {a} {b} e = let k = rw e at (follows f) in ap right-part (two-formed f e) ∙ right-make 0 a b (tag-of f) (k .0) (k .1)
 
-  pub left-of-one : {a : Formula} → rest-of f ≡ unary a → left-part f ≡ a
-  unfolding rest-left
-  left-of-one e = left-part-is f ∙ ap (λ r. rest-left r f) e
+  left-of-one : {a : Formula} → rest-of f ≡ unary a → left-part f ≡ a
+  left-of-one {a} e = let k = rw e at (follows f) in ap left-part (one-formed f e) ∙ left-make 0 a One (tag-of f) (omega (arith, k .0)) (k .1)
 
 -- a negation has no implication at its top
 negate-spelled : (f : Formula) → spell (negate f) ≡ negate f
@@ -213,7 +168,7 @@ module _ (x : Formula) where
   one-plain : {a : Formula} → rest-of x ≡ unary a → left-part (spell x) ≡ a
   unfolding left-how read-as
   one-plain {a} e =
-      let tag : 11 ≤ tag-of x = rw e at (follows x) in
+      let tag : (11 ≤ tag-of x) × (tag-of x < 13) = rw e at (follows x) in
       let stays : left-how (tag-of x) Spelled ≡ Plain = rw (left-how, ne-eqb (tag-of x) 10 λ k. omega arith) in
       left-of-one (spell x) (spelled-one e) ∙ ap (λ h. read-as h a) stays
 
@@ -247,10 +202,10 @@ module _ (s : List ℕ) (at end : ℕ) (some : at < end) (inside : end ≤ lengt
     module _ (x : Formula) (here : FormulaAt s at x) (ends : end ≡ at + size x) where
       tag-x : f .tag ≡ tag-of (spell x)
       unfolding read-as
-      tag-x = tag-is ∙ ap (λ (t : ℕ). sign-of t Spelled) (byte-is ∙ tag-here x (here .stands)) ∙ sym (read-tag Spelled x)
+      tag-x = tag-is ∙ ap (λ (t : ℕ). sign-of t Spelled) (byte-is ∙ tag-stands x (here .stands)) ∙ sym (read-tag Spelled x)
 
       how-x : f .left .how ≡ part-how (tag-of x)
-      how-x = left-how ∙ ap part-how (byte-is ∙ tag-here x (here .stands))
+      how-x = left-how ∙ ap part-how (byte-is ∙ tag-stands x (here .stands))
 
       next-x : next ≡ at + 1
       next-x = next-is ∙ omega arith

@@ -6,18 +6,18 @@ use native.Mathlib.Omega.{arith}
 use lib.ListN.{length, getD, length-append}
 use Rattle.logic.specs.Formula.{Formula, One, Bottom, Top, Zero, Atom, NegAtom, Tensor, Par, With, Plus, Lolli, OfCourse, WhyNot, size}
 use Rattle.logic.specs.FormulaLaws.{size-positive}
+use Rattle.logic.specs.Parts.{tag-of}
 use Rattle.wire.specs.Write.{two-bytes, write-formula, write-formulas}
 use Rattle.wire.specs.Fits.{FormulasFit}
 use Rattle.wire.specs.FormulaBytes.{length-write}
 use Rattle.tree.specs.Stands.{Stands}
 use Rattle.tree.specs.StandsLaws.{stands-left, stands-right, stands-head, stands-tail}
-use Rattle.tree.specs.Tags.{tag}
 use Rattle.tree.specs.Places.{FormulaAt, Holds}
 use Rattle.tree.specs.declared.Span.{Span}
 
 module _ {s : List ℕ} {at : ℕ} where
-  pub tag-stands : (f : Formula) → Stands s at (write-formula f) → getD s at 0 ≡ tag f
-  unfolding write-formula tag
+  pub tag-stands : (f : Formula) → Stands s at (write-formula f) → getD s at 0 ≡ tag-of f
+  unfolding write-formula tag-of
   tag-stands One h = stands-head h
   tag-stands Bottom h = stands-head h
   tag-stands Top h = stands-head h
@@ -32,7 +32,7 @@ module _ {s : List ℕ} {at : ℕ} where
   tag-stands (OfCourse a) h = stands-head h
   tag-stands (WhyNot a) h = stands-head h
 
-  pub tag-at : (f : Formula) → FormulaAt s at f → getD s at 0 ≡ tag f
+  pub tag-at : (f : Formula) → FormulaAt s at f → getD s at 0 ≡ tag-of f
   tag-at f h = tag-stands f (h .stands)
 
   pub formula-inside : (f : Formula) → FormulaAt s at f → at + size f ≤ length s

@@ -4,8 +4,6 @@ pub mod EndsLaws
 pub mod Stands
 pub mod StandsLaws
 pub mod Answers
-pub mod Tags
-pub mod TagsLaws
 pub mod Places
 pub mod ReadingLaws
 pub mod PlacesLaws

@@ -103,7 +103,7 @@ write-rule-is (FocusNegative i) = refl
 write-rule-is Blur = refl
 
 -- which rules have an argument
-cut-only : (r : Rule) → rule-number r ≡ 1 → (c : Formula) × (r ≡ Cut c)
+pub cut-only : (r : Rule) → rule-number r ≡ 1 → (c : Formula) × (r ≡ Cut c)
 unfolding rule-number
 cut-only Axiom e = absurd (omega arith)
 cut-only (Cut c) e = (c, refl)

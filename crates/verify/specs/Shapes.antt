@@ -7,11 +7,11 @@ use Prim.Native.Nat.{ℕ}
 use lib.Dec.{eqb}
 use lib.ListN.{getD}
 use Rattle.logic.specs.Formula.{Formula}
+use Rattle.logic.specs.Parts.{tag-of}
 use Rattle.logic.specs.Sequent.{Sequent}
 use Rattle.logic.specs.Tree.{Rule, Trees, premise-count}
 use Rattle.logic.specs.Verify as logic
 use Rattle.logic.specs.Verify.{any, axiom-shaped, one-shaped, need-shape, need-premises, shape-fault}
-use Rattle.tree.specs.Tags.{tag}
 use Rattle.tree.specs.Places.{Holds, NodeIs}
 use Rattle.tree.specs.declared.Span.{Span}
 use Rattle.tree.specs.declared.Node.{Node}
@@ -20,7 +20,7 @@ use Rattle.verify.specs.declared.Fault.{Fault}
 
 -- the formula has this tag
 abbrev pub tagged : ℕ → Formula → Bool
-tagged t f = eqb (tag f) t
+tagged t f = eqb (tag-of f) t
 
 -- the answers of the tests, where the zone holds formulas
 pub record HasTag (s : List ℕ) (z : Span) (t : ℕ) (r : Bool) : Type 0 where

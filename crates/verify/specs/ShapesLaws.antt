@@ -12,20 +12,19 @@ use lib.ListN.{length, getD, List·getD-eq-default}
 use Rattle.logic.specs.Formula.{Formula, One, Bottom, Top, Zero, Atom, NegAtom, Tensor, Par, With, Plus, Lolli, OfCourse, WhyNot, negate, same, among, size}
 use Rattle.logic.specs.FormulaLaws.{same-iff, same-symmetric, different-same, size-positive}
 use Rattle.wire.specs.Write.{write-formula, write-formulas}
-use Rattle.logic.specs.Parts.{left-part, right-part, is-literal, is-binary, is-unary}
+use Rattle.logic.specs.Parts.{tag-of, name-of, left-part, right-part, is-literal, is-binary, is-unary, signs, make, signed}
+use Rattle.logic.specs.PartsLaws.{size-name, by-tag, same-signed}
 use Rattle.logic.specs.Sequent.{Sequent}
 use Rattle.logic.specs.Tree.{Rule, Axiom, Cut, OneIntro, BottomIntro, TensorIntro, ParIntro, TopIntro, WithIntro, PlusIntroLeft, PlusIntroRight, OfCourseIntro, WhyNotIntro, Weakening, Contraction, Dereliction, FocusPositive, FocusNegative, Blur, premise-count}
 use Rattle.logic.specs.Verify as logic
 use Rattle.logic.specs.Verify.{any, axiom-shaped, one-shaped, need, need-premises, shape-fault}
-use Rattle.tree.specs.Tags.{tag, name, signed}
-use Rattle.tree.specs.TagsLaws.{by-tag, same-signed}
+use Rattle.logic.specs.VerifyLaws.{any-head, any-tail, any-same, among-any}
 use Rattle.tree.specs.Places.{rule-number, Within, Passed, FormulaAt, Holds}
 use Rattle.tree.specs.StandsLaws.{stands-head, stands-tail}
 use Rattle.tree.specs.FormulaPlaces.{tag-at, atom-name, neg-atom-name, First, holds-first, holds-none}
 use Rattle.tree.specs.declared.Span.{Span}
 use Rattle.tree.specs.declared.Node.{Node}
 use Rattle.strict.specs.Rules.{NoneOf}
-use Rattle.strict.specs.RulesLaws.{any-head, any-tail}
 use Rattle.verify.specs.Verdicts.{fault-of}
 use Rattle.verify.specs.Shapes.{tagged, in-order, HasTag, IsAxiom, IsOne, no-test, shape-tests, test-of, ShapeFault, Left}
 use Rattle.verify.specs.declared.Fault.{Fault}
@@ -33,43 +32,33 @@ use Rattle.verify.specs.declared.Fault.the-variants as fault
 
 -- ---- tests by tag
 
-any-same : {A : Type 0} {test test′ : A → Bool} → ((x : A) → test x ≡ test′ x) → (xs : List A) → any test xs ≡ any test′ xs
-unfolding any
-any-same h [] = refl
-any-same h (x ∷ xs) = ap₂ (λ (b c : Bool). elim b as (λ _. Bool) [ true ↦ true | false ↦ c ]) (h x) (any-same h xs)
-
-among-any : (x : Formula) (ys : List Formula) → among x ys ≡ any (same x) ys
-unfolding among any
-among-any x [] = refl
-among-any x (y ∷ ys) = ap (λ (c : Bool). elim (same x y) as (λ _. Bool) [ true ↦ true | false ↦ c ]) (among-any x ys)
-
 tensors : (fs : List Formula) → any (is-binary Tensor) fs ≡ any (tagged 6) fs
-unfolding tag signed
-tensors = any-same (same-signed 6 (λ f. Tensor (left-part f) (right-part f)) (λ f. refl) (λ f. refl))
+unfolding make signs
+tensors = any-same (same-signed 6 (omega arith))
 
 pars : (fs : List Formula) → any (is-binary Par) fs ≡ any (tagged 7) fs
-unfolding tag signed
-pars = any-same (same-signed 7 (λ f. Par (left-part f) (right-part f)) (λ f. refl) (λ f. refl))
+unfolding make signs
+pars = any-same (same-signed 7 (omega arith))
 
 withs : (fs : List Formula) → any (is-binary With) fs ≡ any (tagged 8) fs
-unfolding tag signed
-withs = any-same (same-signed 8 (λ f. With (left-part f) (right-part f)) (λ f. refl) (λ f. refl))
+unfolding make signs
+withs = any-same (same-signed 8 (omega arith))
 
 pluses : (fs : List Formula) → any (is-binary Plus) fs ≡ any (tagged 9) fs
-unfolding tag signed
-pluses = any-same (same-signed 9 (λ f. Plus (left-part f) (right-part f)) (λ f. refl) (λ f. refl))
+unfolding make signs
+pluses = any-same (same-signed 9 (omega arith))
 
 of-courses : (fs : List Formula) → any (is-unary OfCourse) fs ≡ any (tagged 11) fs
-unfolding tag signed
-of-courses = any-same (same-signed 11 (λ f. OfCourse (left-part f)) (λ f. refl) (λ f. refl))
+unfolding make signs
+of-courses = any-same (same-signed 11 (omega arith))
 
 bottoms : (fs : List Formula) → among Bottom fs ≡ any (tagged 1) fs
-unfolding tag signed
-bottoms fs = among-any Bottom fs ∙ any-same (λ f. same-symmetric Bottom f ∙ same-signed 1 (λ f. Bottom) (λ f. refl) (λ f. refl) f) fs
+unfolding make signs
+bottoms fs = among-any Bottom fs ∙ any-same (λ f. same-symmetric Bottom f ∙ same-signed 1 (omega arith) f) fs
 
 tops : (fs : List Formula) → among Top fs ≡ any (tagged 2) fs
-unfolding tag signed
-tops fs = among-any Top fs ∙ any-same (λ f. same-symmetric Top f ∙ same-signed 2 (λ f. Top) (λ f. refl) (λ f. refl) f) fs
+unfolding make signs
+tops fs = among-any Top fs ∙ any-same (λ f. same-symmetric Top f ∙ same-signed 2 (omega arith) f) fs
 
 -- each rule's test is the one by its number
 shape-by-number : (r : Rule) (q : Sequent) (got : ℕ) → shape-fault r q got ≡ test-of (rule-number r) (q .linear) got
@@ -204,9 +193,9 @@ module _ {s : List ℕ} {z : Span} {t : ℕ} (inside : Within (length s) z) wher
 
 -- ---- 1 alone
 
-one-tag : (f : Formula) → same One f ≡ eqb (tag f) 0
-unfolding tag signed
-one-tag f = same-symmetric One f ∙ same-signed 0 (λ f. One) (λ f. refl) (λ f. refl) f
+one-tag : (f : Formula) → same One f ≡ eqb (tag-of f) 0
+unfolding make signs
+one-tag f = same-symmetric One f ∙ same-signed 0 (omega arith) f
 
 module _ {s : List ℕ} {z : Span} where
   pub not-one : (z .end - z .start ≡ 1 → ⊥) → IsOne s z false
@@ -239,19 +228,19 @@ module _ {s : List ℕ} {z : Span} where
 -- ---- a name and the same name negated
 
 -- names are compared as numbers
-same-names : (sign : ℕ → Formula) → ((a : ℕ) → name (sign a) ≡ a) → (a b : ℕ) → same (sign a) (sign b) ≡ eqb a b
+same-names : (sign : ℕ → Formula) → ((a : ℕ) → name-of (sign a) ≡ a) → (a b : ℕ) → same (sign a) (sign b) ≡ eqb a b
 same-names sign e a b = go (eqb a b) refl
   where
     go : (t : Bool) → eqb a b ≡ t → same (sign a) (sign b) ≡ t
     go true h = same-iff (sign a) (sign b) .1 (ap sign (eqb-true a b h))
-    go false h = different-same (sign a) (sign b) (λ k. eqb-false a b h (sym (e a) ∙ ap name k ∙ e b))
+    go false h = different-same (sign a) (sign b) (λ k. eqb-false a b h (sym (e a) ∙ ap name-of k ∙ e b))
 
 same-atoms : (a b : ℕ) → same (Atom a) (Atom b) ≡ eqb a b
-unfolding name
+unfolding name-of
 same-atoms = same-names Atom (λ a. refl)
 
 same-neg-atoms : (a b : ℕ) → same (NegAtom a) (NegAtom b) ≡ eqb a b
-unfolding name
+unfolding name-of
 same-neg-atoms = same-names NegAtom (λ a. refl)
 
 -- what an axiom's zone is in bytes, but for the name
@@ -305,30 +294,28 @@ module _ {s : List ℕ} {z : Span} where
       go fs h true e = absurd (k (axiom-bytes fs h e))
 
 -- the formula of a name's tag is three bytes long
-three-long : (f : Formula) (t : ℕ) → tag f ≡ t → (t ≡ 4) ⊎ (t ≡ 5) → size f ≡ 3
-unfolding signed size
-three-long f t e k =
-    ap size (by-tag t f e) ∙ ⊎-elim (λ k. ap (λ (t : ℕ). size (signed t f)) k) (λ k. ap (λ (t : ℕ). size (signed t f)) k) k
+three-long : (f : Formula) (t : ℕ) → tag-of f ≡ t → 4 ≤ t → t < 6 → size f ≡ 3
+three-long f t e k l = ap size (by-tag t f e) ∙ size-name (name-of f) (left-part f) (right-part f) t k l
 
 -- two names, with their signs and nothing behind
 record Pair (s : List ℕ) (z : Span) (t u : ℕ) (fs : List Formula) : Type 0 where
   one : Formula
   other : Formula
   joined : fs ≡ one ∷ other ∷ []
-  one-tag-is : tag one ≡ t
-  other-tag-is : tag other ≡ u
+  one-tag-is : tag-of one ≡ t
+  other-tag-is : tag-of other ≡ u
   one-there : FormulaAt s (z .start) one
   other-there : FormulaAt s (z .start + 3) other
 
 module _ (s : List ℕ) (z : Span) where
-  pair : (t u : ℕ) → (t ≡ 4) ⊎ (t ≡ 5) → (u ≡ 4) ⊎ (u ≡ 5) → z .end - z .start ≡ 6 → getD s (z .start) 0 ≡ t → getD s (z .start + 3) 0 ≡ u → (fs : List Formula) → Holds s z fs → Pair s z t u fs
+  pair : (t u : ℕ) → (4 ≤ t) × (t < 6) → (4 ≤ u) × (u < 6) → z .end - z .start ≡ 6 → getD s (z .start) 0 ≡ t → getD s (z .start + 3) 0 ≡ u → (fs : List Formula) → Holds s z fs → Pair s z t u fs
   pair t u name name′ six e e′ fs h =
       let f = holds-first fs h (omega arith) in
-      let tag-f : tag (f .formula) ≡ t = sym (tag-at (f .formula) (f .there)) ∙ e in
-      let n : size (f .formula) ≡ 3 = three-long (f .formula) t tag-f name in
+      let tag-f : tag-of (f .formula) ≡ t = sym (tag-at (f .formula) (f .there)) ∙ e in
+      let n : size (f .formula) ≡ 3 = three-long (f .formula) t tag-f (name .0) (name .1) in
       let g = holds-first (f .others) (f .holds (z .start + 3) (ap (_+_ (z .start)) (sym n))) (omega arith) in
-      let tag-g : tag (g .formula) ≡ u = sym (tag-at (g .formula) (g .there)) ∙ e′ in
-      let m : size (g .formula) ≡ 3 = three-long (g .formula) u tag-g name′ in
+      let tag-g : tag-of (g .formula) ≡ u = sym (tag-at (g .formula) (g .there)) ∙ e′ in
+      let m : size (g .formula) ≡ 3 = three-long (g .formula) u tag-g (name′ .0) (name′ .1) in
       let none-left : g .others ≡ [] = holds-none (g .others) (g .holds (z .start + 3 + size (g .formula)) refl) (omega arith) in
       record {
         one = f .formula;
@@ -344,28 +331,27 @@ module _ (s : List ℕ) (z : Span) where
     other-name′ : b ≡ getD s (z .start + 3 + 1) 0 * 256 + getD s (z .start + 3 + 1 + 1) 0
     other-name′ = let four : z .start + 4 ≡ z .start + 3 + 1 = omega arith in other-name ∙ ap (λ (k : ℕ). getD s k 0 * 256 + getD s (k + 1) 0) four
 
-    pub axiom-found : getD s (z .start) 0 ≡ 4 → getD s (z .start + 3) 0 ≡ 5 → IsAxiom s z (eqb a b)
-    unfolding axiom-shaped is-literal negate signed
-    axiom-found e e′ =
+    -- two names of these signs, one of them negated
+    names-found : (t u : ℕ) (f g : ℕ → Formula) → (4 ≤ t) × (t < 6) → (4 ≤ u) × (u < 6) → ((h : Formula) → signed t h ≡ f (name-of h)) → ((h : Formula) → signed u h ≡ g (name-of h))
+        → ((n : ℕ) → FormulaAt s (z .start) (f n) → a ≡ n) → ((n : ℕ) → FormulaAt s (z .start + 3) (g n) → b ≡ n) → ((n k : ℕ) → axiom-shaped (f n ∷ g k ∷ []) ≡ eqb n k)
+        → getD s (z .start) 0 ≡ t → getD s (z .start + 3) 0 ≡ u → IsAxiom s z (eqb a b)
+    names-found t u f g name name′ made made′ first second shaped e e′ =
         record {
           is = λ fs h.
-              let p = pair 4 5 (inl refl) (inr refl) six e e′ fs h in
-              let f : p .one ≡ Atom (name (p .one)) = by-tag 4 (p .one) (p .one-tag-is) in
-              let g : p .other ≡ NegAtom (name (p .other)) = by-tag 5 (p .other) (p .other-tag-is) in
-              let x : a ≡ name (p .one) = one-name ∙ atom-name (name (p .one)) (subst (FormulaAt s (z .start)) f (p .one-there)) in
-              let y : b ≡ name (p .other) = other-name′ ∙ neg-atom-name (name (p .other)) (subst (FormulaAt s (z .start + 3)) g (p .other-there)) in
-              ap₂ eqb x y ∙ sym (same-neg-atoms (name (p .one)) (name (p .other))) ∙ sym (ap axiom-shaped (p .joined ∙ ap₂ (λ (f g : Formula). f ∷ g ∷ []) f g));
+              let p = pair t u name name′ six e e′ fs h in
+              let one : p .one ≡ f (name-of (p .one)) = by-tag t (p .one) (p .one-tag-is) ∙ made (p .one) in
+              let other : p .other ≡ g (name-of (p .other)) = by-tag u (p .other) (p .other-tag-is) ∙ made′ (p .other) in
+              let x : a ≡ name-of (p .one) = first _ (subst (FormulaAt s (z .start)) one (p .one-there)) in
+              let y : b ≡ name-of (p .other) = second _ (subst (FormulaAt s (z .start + 3)) other (p .other-there)) in
+              ap₂ eqb x y ∙ sym (shaped _ _) ∙ sym (ap axiom-shaped (p .joined ∙ ap₂ (λ (f g : Formula). f ∷ g ∷ []) one other));
         }
 
+    pub axiom-found : getD s (z .start) 0 ≡ 4 → getD s (z .start + 3) 0 ≡ 5 → IsAxiom s z (eqb a b)
+    unfolding axiom-shaped is-literal negate make signs
+    axiom-found =
+        names-found 4 5 Atom NegAtom (omega arith, omega arith) (omega arith, omega arith) (λ h. refl) (λ h. refl) (λ n h. one-name ∙ atom-name n h) (λ n h. other-name′ ∙ neg-atom-name n h) same-neg-atoms
+
     pub axiom-found-turned : getD s (z .start) 0 ≡ 5 → getD s (z .start + 3) 0 ≡ 4 → IsAxiom s z (eqb a b)
-    unfolding axiom-shaped is-literal negate signed
-    axiom-found-turned e e′ =
-        record {
-          is = λ fs h.
-              let p = pair 5 4 (inr refl) (inl refl) six e e′ fs h in
-              let f : p .one ≡ NegAtom (name (p .one)) = by-tag 5 (p .one) (p .one-tag-is) in
-              let g : p .other ≡ Atom (name (p .other)) = by-tag 4 (p .other) (p .other-tag-is) in
-              let x : a ≡ name (p .one) = one-name ∙ neg-atom-name (name (p .one)) (subst (FormulaAt s (z .start)) f (p .one-there)) in
-              let y : b ≡ name (p .other) = other-name′ ∙ atom-name (name (p .other)) (subst (FormulaAt s (z .start + 3)) g (p .other-there)) in
-              ap₂ eqb x y ∙ sym (same-atoms (name (p .one)) (name (p .other))) ∙ sym (ap axiom-shaped (p .joined ∙ ap₂ (λ (f g : Formula). f ∷ g ∷ []) f g));
-        }
+    unfolding axiom-shaped is-literal negate make signs
+    axiom-found-turned =
+        names-found 5 4 NegAtom Atom (omega arith, omega arith) (omega arith, omega arith) (λ h. refl) (λ h. refl) (λ n h. one-name ∙ neg-atom-name n h) (λ n h. other-name′ ∙ atom-name n h) same-atoms

@@ -14,6 +14,7 @@ use Rattle.logic.specs.Split.{keep, left-of, right-of}
 use Rattle.logic.specs.Tree.{Rule, Tree, Trees, node, ∅, _▹_, premise-count}
 use Rattle.logic.specs.Built.{Built, by-par, by-bottom, by-top, by-with, by-why-not, by-lolli, by-axiom, by-axiom⊥, by-one, by-tensor, by-plus-left, by-plus-right, by-of-course, by-dereliction, by-contraction, by-weakening}
 use Rattle.logic.specs.Concludes.{depth-bound}
+use Rattle.wire.specs.ZoneBytes.{length-write-zone}
 use Rattle.wire.specs.Write.{write-formulas, write-zone, write-rule, write-node, write-nodes}
 use Rattle.wire.specs.Read.{highest-formula, highest-tree}
 use Rattle.wire.specs.Fits.{NamesFit, FormulaFits, FormulasFit, RuleFits, NodesFit, NodesFit*, NodesFew, NodesFew*, TreeFits}
@@ -182,10 +183,6 @@ built-formulas (by-weakening before a after ne ps e d) z =
     let w = beside before a after e (z .unrestricted-fits) in
     (tt, z, omega arith, (built-formulas d record { linear-fits = z .linear-fits; unrestricted-fits = w .others }, tt))
 
-zone-length : (fs : List Formula) → length (write-zone fs) ≡ suc (suc (length (write-formulas fs)))
-unfolding write-zone
-zone-length fs = refl
-
 -- where a tree's body is short, so are its zones
 mutual
   unfolding write-node write-nodes
@@ -199,8 +196,8 @@ mutual
           rule-fits = h .0;
           zones-fit =
               record {
-                first-fits = record { formulas-fit = h .1 .linear-fits; zone-short = omega (arith, short, l, l1, zone-length (q .linear)) };
-                second-fits = record { formulas-fit = h .1 .unrestricted-fits; zone-short = omega (arith, short, l, l1, l2, zone-length (q .unrestricted)) };
+                first-fits = record { formulas-fit = h .1 .linear-fits; zone-short = omega (arith, short, l, l1, length-write-zone (q .linear)) };
+                second-fits = record { formulas-fit = h .1 .unrestricted-fits; zone-short = omega (arith, short, l, l1, l2, length-write-zone (q .unrestricted)) };
                 few-formulas = few .0;
               };
           few-premises = h .2;

@@ -1,11 +1,11 @@
 -- Zones written and read: a list of formulas to the end of its bytes, and a zone with its length in front. Assumes nothing.
 use mathlib.Core.Path.{_≡_, refl, sym, ap, _∙_}
-use mathlib.Core.List.{List, [], _∷_, _++_}
+use mathlib.Core.List.{List, [], _∷_, _++_, append-assoc, append-nil}
 use Prim.Native.Nat.{ℕ, zero, suc, _+_, _≤_}
 use native.Mathlib.Omega.{arith}
 use lib.Dec.{leb}
-use lib.ListN.{length, length-append, take-append-drop}
-use lib.Seq.{take-append-seam, drop-append-seam, length-take-le}
+use lib.ListN.{length, take, drop, length-append, take-append-drop}
+use lib.Seq.{slice, take-append-seam, drop-append-seam, drop-append-le, length-take-le}
 use borrow.Author.Tests.{leb-true, le-leb}
 use Rattle.logic.specs.Formula.{Formula, size}
 use Rattle.logic.specs.Answer.{wrong-length}
@@ -27,6 +27,24 @@ write-formulas-bytes (f ∷ fs) h = bytes-append (write-bytes f (h .0 .names-fit
 pub length-write-formulas : (f : Formula) (fs : List Formula) → length (write-formulas (f ∷ fs)) ≡ size f + length (write-formulas fs)
 unfolding write-formulas
 length-write-formulas f fs = length-append (write-formula f) (write-formulas fs) ∙ ap (λ (n : ℕ). n + length (write-formulas fs)) (length-write f)
+
+pub write-formulas-append : (fs gs : List Formula) → write-formulas (fs ++ gs) ≡ write-formulas fs ++ write-formulas gs
+unfolding write-formulas
+write-formulas-append [] gs = refl
+write-formulas-append (f ∷ fs) gs = rw (write-formulas-append fs gs, append-assoc)
+
+pub write-formulas-one : (f : Formula) → write-formulas (f ∷ []) ≡ write-formula f
+unfolding write-formulas
+write-formulas-one f = append-nil (write-formula f)
+
+pub length-write-zone : (fs : List Formula) → length (write-zone fs) ≡ suc (suc (length (write-formulas fs)))
+unfolding write-zone
+length-write-zone fs = refl
+
+-- what stands from a place on: up to `end`, and behind it
+pub drop-split : (s : List ℕ) (p end : ℕ) → p ≤ end → end ≤ length s → drop p s ≡ slice p end s ++ drop end s
+drop-split s p end h inside =
+    ap (drop p) (sym (take-append-drop end s)) ∙ drop-append-le p (take end s) (drop end s) (omega (arith, length-take-le end s inside))
 
 -- bytes that are not at their end begin a formula
 one-more : (most : ℕ) (bs : List ℕ) → 1 ≤ length bs

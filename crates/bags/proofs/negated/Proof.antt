@@ -1,7 +1,7 @@
 -- `bags::negated` meets its contract: it is the table. Assumes nothing.
 use mathlib.Core.Path.{refl}
 use borrow.Author.Needs.{needs}
-use Rattle.bags.specs.Reading.{negated-tag}
+use Rattle.logic.specs.Parts.{negated-tag}
 use Rattle.bags.specs.ReadingLaws.{negated-beyond}
 use Rattle.bags.proofs.negated.Statement.{statement}
 use Rattle.bags.proofs.negated.Tie as tie

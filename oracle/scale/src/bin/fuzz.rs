@@ -10,7 +10,7 @@ use oracle::question::Question;
 use oracle::random::Random;
 use oracle::{formula, tree};
 use scale::guarded::{self, Guarded};
-use scale::image::{extends, is_well_formed, Image, FAILURES, ORDER, WORDS};
+use scale::image::{extends, is_well_formed, Image, FAILURES, FAILURE_ORDER, ORDER, WORDS};
 use scale::library::{self, Settings};
 use scale::tally::{Difference, Tally};
 use scale::{bytes, calls, draw};
@@ -222,11 +222,12 @@ fn wrong(what: &str, s: &[u8], words: &[u16]) -> Difference {
 fn change(random: &mut Random, words: &mut [u16]) {
     let formulas = usize::from(words[0]).min(MAX_FORMULAS);
     let failures = usize::from(words[FAILURES]).min(MAX_FAILURES - 1);
-    let place = match random.below(6) {
+    let place = match random.below(7) {
         0 => *random.pick(&[0, FAILURES]),
         1 => random.below(2 + 5 * formulas),
         2 => ORDER + random.below(1 + formulas),
         3 | 4 => FAILURES + random.below(2 + 32 * failures),
+        5 => FAILURE_ORDER + random.below(1 + failures),
         _ => random.below(WORDS),
     };
     words[place] = match random.below(5) {

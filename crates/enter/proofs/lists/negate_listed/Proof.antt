@@ -1,5 +1,6 @@
 -- `enter::lists::negate_listed` meets its contract. Assumes nothing.
-use Rattle.enter.proofs.ListSteps.{Turning, turning-starts, turning-low, turning-over, turning-fits, turning-more, turning-ends, entered-number, entered-none}
+use Rattle.enter.proofs.ListSteps.{Turning, turning-starts, turning-low, turning-over, turning-fits, turning-more, turning-ends}
+use Rattle.held.proofs.TurnSteps.{entered-at, entered-full}
 use Prim.Native.Nat.{_-_}
 use mathlib.Core.Path.{_∙_, refl}
 use native.Mathlib.Omega.{arith}
@@ -41,10 +42,10 @@ same-length-2 : tie.Need-same-length-2 Inv-loop μ-loop
 same-length-2 c = search needs
 
 returns : tie.Need-returns Inv-loop μ-loop
-returns c = turning-over _ _ _ _ _ (c .before .before .before .before .before .before .before .before .loop .k) _ (c .before .before .before .before .before .before .before .before .loop .inv) (c .before .before .before .before .before .before .before .loop-test .taken) refl _ (entered-none _ _ (c .before .before .before .before .negate-held .result) _ (c .before .before .before .before .negate-held .ensures) (c .enum-told .given .1))
+returns c = turning-over _ _ _ _ _ (c .before .before .before .before .before .before .before .before .loop .k) _ (c .before .before .before .before .before .before .before .before .loop .inv) (c .before .before .before .before .before .before .before .loop-test .taken) refl _ (entered-full _ _ (c .before .before .before .before .negate-held .result) _ (c .before .before .before .before .negate-held .ensures) (c .enum-told .given .1))
 
 cast-numbers : tie.Need-cast-numbers Inv-loop μ-loop
-cast-numbers c = omega (arith, turning-fits _ _ _ _ _ (c .before .before .before .before .before .before .before .before .before .loop .k) _ (c .before .before .before .before .before .before .before .before .before .loop .inv) (c .before .before .before .before .before .before .before .before .loop-test .taken) refl _ _ (entered-number _ _ (c .before .before .before .before .before .negate-held .result) _ _ (c .before .before .before .before .before .negate-held .ensures) (c .before .i .given .1)))
+cast-numbers c = omega (arith, turning-fits _ _ _ _ _ (c .before .before .before .before .before .before .before .before .before .loop .k) _ (c .before .before .before .before .before .before .before .before .before .loop .inv) (c .before .before .before .before .before .before .before .before .loop-test .taken) refl _ _ (entered-at _ _ (c .before .before .before .before .before .negate-held .result) _ _ (c .before .before .before .before .before .negate-held .ensures) (c .before .i .given .1)))
 
 mul-numbers : tie.Need-mul-numbers Inv-loop μ-loop
 mul-numbers c = search needs
@@ -59,7 +60,7 @@ loop-less : tie.Need-loop-less Inv-loop μ-loop
 loop-less c = search needs
 
 loop-again : tie.Need-loop-again Inv-loop μ-loop
-loop-again c = turning-more _ _ _ _ _ (c .before .before .before .before .before .before .before .before .before .loop .k) _ (c .before .before .before .before .before .before .before .before .before .loop .inv) (c .before .before .before .before .before .before .before .before .loop-test .taken) refl _ _ (entered-number _ _ (c .before .before .before .before .before .negate-held .result) _ _ (c .before .before .before .before .before .negate-held .ensures) (c .before .i .given .1))
+loop-again c = turning-more _ _ _ _ _ (c .before .before .before .before .before .before .before .before .before .loop .k) _ (c .before .before .before .before .before .before .before .before .before .loop .inv) (c .before .before .before .before .before .before .before .before .loop-test .taken) refl _ _ (entered-at _ _ (c .before .before .before .before .before .negate-held .result) _ _ (c .before .before .before .before .before .negate-held .ensures) (c .before .i .given .1))
 
 same-length-3 : tie.Need-same-length-3 Inv-loop μ-loop
 same-length-3 c = search needs

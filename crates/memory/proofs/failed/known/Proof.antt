@@ -1,7 +1,7 @@
 -- `memory::failed::known` meets its contract. Assumes nothing.
 use native.Mathlib.Omega.{arith}
 use Rattle.memory.specs.MeaningLaws.{wf-length}
-use Rattle.memory.proofs.FailedSteps.{sequent-named, lent-sized, known-failed}
+use Rattle.memory.proofs.FailedSteps.{sequent-named, lent-kept, known-failed}
 use borrow.Author.Needs.{needs}
 use Rattle.memory.proofs.failed.known.Statement.{statement}
 use Rattle.memory.proofs.failed.known.Tie as tie
@@ -25,7 +25,7 @@ part-known-end : tie.Need-part-known-end
 part-known-end c = search needs
 
 known-requires : tie.Need-known-requires
-known-requires c κs = (lent-sized _ (c .before .before .before .before .pre .0), c .before .items-of .ensures .fits)
+known-requires c κs = (lent-kept _ (c .before .before .before .before .pre .0), c .before .items-of .ensures .fits)
 
 returns : tie.Need-returns
 returns c = known-failed _ (c .before .before .before .before .before .pre .0) (c .before .before .before .before .before .pre .1) (c .before .before .items-of .ensures) (c .known .result) (c .known .ensures)

@@ -1,7 +1,7 @@
 -- `memory::failed::record_failure` meets its contract. Assumes nothing.
 use native.Mathlib.Omega.{arith}
 use Rattle.memory.specs.MeaningLaws.{wf-length}
-use Rattle.memory.proofs.FailedSteps.{sequent-named, lent-sized, recorded, no-place}
+use Rattle.memory.proofs.FailedSteps.{sequent-named, lent-kept, recorded, no-place}
 use borrow.Author.Needs.{needs}
 use Rattle.memory.proofs.failed.record_failure.Statement.{statement}
 use Rattle.memory.proofs.failed.record_failure.Tie as tie
@@ -28,7 +28,7 @@ part-record-failure-end : tie.Need-part-record-failure-end
 part-record-failure-end c = search needs
 
 record-failure-requires : tie.Need-record-failure-requires
-record-failure-requires c κs = (lent-sized _ (c .before .before .before .before .pre .0), c .before .items-of .ensures .fits)
+record-failure-requires c κs = (lent-kept _ (c .before .before .before .before .pre .0), c .before .items-of .ensures .fits)
 
 enum-told : tie.Need-enum-told
 enum-told c = search needs

@@ -573,8 +573,12 @@ module _ (t : ℕ) where
   prove-async-word-requires-4 : prove-async-lts.Need-word-requires-4 (prove-async-calls t) (prove-async-at t) prove-async.Post
   prove-async-word-requires-4 c κs = (omega arith, (place-low (c .before .before .before .before .before .before .before .before .before .before .args .left) (c .before .before .before .before .before .before .before .before .before .before .args .depth) (c .before .before .before .before .before .before .before .before .before .before .pre .1) ((subst (Planned (c .before .before .before .before .before .before .before .before .before .before .args .mem .now) (c .before .before .before .before .before .before .before .before .before .before .args .z)) (c .before .before .before .before .p4 .given .1) (c .before .before .before .before .before .before .first-plan .ensures)) .first .place), omega arith))
 
+  -- Either part is held, whichever comes first: that the left one does is for the answer.
   prove-async-both-requires : prove-async-lts.Need-both-requires (prove-async-calls t) (prove-async-at t) prove-async.Post
-  prove-async-both-requires c κs = (omega (arith, c .before .before .before .before .before .before .before .before .before .before .before .before .before .pre .0), (ready-zones (c .before .before .before .before .before .before .before .before .before .before .before .before .before .pre .1) (stands-made (stands-made (c .before .before .before .before .before .before .before .before .before .before .before .before .before .pre .1 .zones) (c .before .before .before .before .before .without3 .ensures) tt) (c .before .before .before .before .pushed3 .ensures) ((subst (Planned (c .before .before .before .before .before .before .before .before .before .before .before .before .before .args .mem .now) (c .before .before .before .before .before .before .before .before .before .before .before .before .before .args .z)) (c .before .before .before .before .before .before .before .p4 .given .1) (c .before .before .before .before .before .before .before .before .before .first-plan .ensures)) .left)), stands-made (stands-made (c .before .before .before .before .before .before .before .before .before .before .before .before .before .pre .1 .zones) (c .before .before .before .before .before .without3 .ensures) tt) (c .before .before .before .pushed4 .ensures) ((subst (Planned (c .before .before .before .before .before .before .before .before .before .before .before .before .before .args .mem .now) (c .before .before .before .before .before .before .before .before .before .before .before .before .before .args .z)) (c .before .before .before .before .before .before .before .p4 .given .1) (c .before .before .before .before .before .before .before .before .before .first-plan .ensures)) .right)))
+  prove-async-both-requires c κs =
+      let parts = subst (Planned (c .before .before .before .before .before .before .before .before .before .before .before .before .before .args .mem .now) (c .before .before .before .before .before .before .before .before .before .before .before .before .before .args .z)) (c .before .before .before .before .before .before .before .p4 .given .1) (c .before .before .before .before .before .before .before .before .before .first-plan .ensures) in
+      let less = stands-made (c .before .before .before .before .before .before .before .before .before .before .before .before .before .pre .1 .zones) (c .before .before .before .before .before .without3 .ensures) tt in
+      (omega (arith, c .before .before .before .before .before .before .before .before .before .before .before .before .before .pre .0), (ready-zones (c .before .before .before .before .before .before .before .before .before .before .before .before .before .pre .1) (stands-made less (c .before .before .before .before .pushed3 .ensures) (omega (arith, parts .left, parts .right))), stands-made less (c .before .before .before .pushed4 .ensures) (omega (arith, parts .left, parts .right))))
 
   prove-async-enum-known-p-5 : prove-async-lts.Need-enum-known-p-5 (prove-async-calls t) (prove-async-at t) prove-async.Post
   prove-async-enum-known-p-5 c = search needs
