@@ -9,7 +9,7 @@ use lib.ListN.{getD, set, length, length-set}
 use lib.Seq.{getD-set-same, getD-set-other}
 use Rattle.logic.specs.Formula.{Formula, negate, height, size}
 use Rattle.logic.specs.FormulaLaws.{negate-height, negate-size}
-use Rattle.logic.specs.Parts.{tag-of, left-part, right-part, make}
+use Rattle.logic.specs.Parts.{tag-of, left-part, right-part, make, negated-tag}
 use Rattle.logic.specs.PartsLaws.{
   make-binary,
   make-unary,
@@ -23,7 +23,7 @@ use Rattle.logic.specs.PartsLaws.{
   negated-binary,
   negated-unary,
 }
-use Rattle.held.specs.Signs.{node, dualOf}
+use Rattle.held.specs.Signs.{node}
 use Rattle.held.specs.SignsLaws.{node-make}
 use Rattle.held.specs.Words.{at, count, most, view, told, Row, two, one, Wf}
 use Rattle.held.specs.OrderLaws.{le-or-lt}
@@ -106,14 +106,14 @@ module _ {m table : List ℕ} {x : ℕ} (p : Table m table x × (x < count m)) {
   pub negation-tag : t < 13
   negation-tag = omega (arith, ft .value, tag-low m x (p .0 .wf) (p .1))
 
-  pub leaf-next : {d : ℕ} → t < 6 → d ≡ dualOf t → Next m d a 0
+  pub leaf-next : {d : ℕ} → t < 6 → d ≡ negated-tag t → Next m d a 0
   leaf-next h e = rw e record { wf = p .0 .wf; tall = at m x 3; wide = at m x 4; row = leaf-row (count m) row h }
 
-  pub leaf-noted : {d r : ℕ} → t < 6 → d ≡ dualOf t → Noted m (node d a 0 (view m)) r → Noted m (negate (told m x)) r
+  pub leaf-noted : {d r : ℕ} → t < 6 → d ≡ negated-tag t → Noted m (node d a 0 (view m)) r → Noted m (negate (told m x)) r
   leaf-noted {d} h e =
       noted-as
       (ap (λ (k : ℕ). node k a 0 (view m)) e
-      ∙ node-make (dualOf t) a 0 (view m)
+      ∙ node-make (negated-tag t) a 0 (view m)
       ∙ sym (negate-leaf a (told m a) (told m b) (told m a) (told m 0) t h)
       ∙ ap negate (sym told-is))
 
@@ -170,14 +170,14 @@ module _ {m table : List ℕ} {x : ℕ} (p : Table m table x × (x < count m)) {
 
   -- two parts, both negated
   module _ (h : 6 ≤ t) (k : t < 10) where
-    mid-is : negate (told m x) ≡ make (dualOf t) a (negate (told m a)) (negate (told m b))
+    mid-is : negate (told m x) ≡ make (negated-tag t) a (negate (told m a)) (negate (told m b))
     mid-is = ap negate told-is ∙ negate-binary a (told m a) (told m b) a t h k
 
     mid-parts : {y : ℕ} → y < count m → told m y ≡ negate (told m x)
         → ((at m y 1 < count m) × (told m (at m y 1) ≡ negate (told m a))) × ((at m y 2 < count m) × (told m (at m y 2) ≡ negate (told m b)))
     mid-parts l f =
         let d = negated-binary t h (omega arith) in
-        part-of-mid m (p .0 .wf) l (dualOf t) a (negate (told m a)) (negate (told m b)) (f ∙ mid-is) (d .0) (d .1)
+        part-of-mid m (p .0 .wf) l (negated-tag t) a (negate (told m a)) (negate (told m b)) (f ∙ mid-is) (d .0) (d .1)
 
     mid-none-left : getD table a 0 ≡ 0 → Noted m (negate (told m x)) 0
     mid-none-left z = noted-none λ y l f. let q = mid-parts l f in omega (arith, z, left-word h .complete (at m y 1) (q .0 .0) (q .0 .1))
@@ -185,7 +185,7 @@ module _ {m table : List ℕ} {x : ℕ} (p : Table m table x × (x < count m)) {
     pub mid-none-right : getD table b 0 ≡ 0 → Noted m (negate (told m x)) 0
     mid-none-right z = noted-none λ y l f. let q = mid-parts l f in omega (arith, z, right-word h (omega arith) .complete (at m y 2) (q .1 .0) (q .1 .1))
 
-    module _ (za : getD table a 0 ≡ 0 → ⊥) (zb : getD table b 0 ≡ 0 → ⊥) {d : ℕ} (e : d ≡ dualOf t) where
+    module _ (za : getD table a 0 ≡ 0 → ⊥) (zb : getD table b 0 ≡ 0 → ⊥) {d : ℕ} (e : d ≡ negated-tag t) where
       mid-left : (getD table a 0 - 1 < count m) × (told m (getD table a 0 - 1) ≡ negate (told m a))
       mid-left = noted-some (left-word h) za
 
@@ -208,22 +208,22 @@ module _ {m table : List ℕ} {x : ℕ} (p : Table m table x × (x < count m)) {
           ∙ rw (e, mid-left .1, mid-right .1) (make-name (getD table a 0 - 1) a (negate (told m a)) (negate (told m b)))
           ∙ sym mid-is)
         where
-          make-name : (n n′ : ℕ) (u v : Formula) → make (dualOf t) n u v ≡ make (dualOf t) n′ u v
-          make-name n n′ u v = make-binary n n′ u v (dualOf t) (negated-binary t h (omega arith) .0) (negated-binary t h (omega arith) .1)
+          make-name : (n n′ : ℕ) (u v : Formula) → make (negated-tag t) n u v ≡ make (negated-tag t) n′ u v
+          make-name n n′ u v = make-binary n n′ u v (negated-tag t) (negated-binary t h (omega arith) .0) (negated-binary t h (omega arith) .1)
 
   -- one part
   module _ (h : 11 ≤ t) where
-    high-is : negate (told m x) ≡ make (dualOf t) a (negate (told m a)) (told m 0)
+    high-is : negate (told m x) ≡ make (negated-tag t) a (negate (told m a)) (told m 0)
     high-is = ap negate told-is ∙ negate-unary a (told m a) (told m b) a (told m 0) t h negation-tag
 
     high-none : getD table a 0 ≡ 0 → Noted m (negate (told m x)) 0
     high-none z =
         noted-none λ y l f.
         let d = negated-unary t h negation-tag in
-        let q = part-of-high m (p .0 .wf) l (dualOf t) a (negate (told m a)) (told m 0) (f ∙ high-is) (d .0) (d .1) in
+        let q = part-of-high m (p .0 .wf) l (negated-tag t) a (negate (told m a)) (told m 0) (f ∙ high-is) (d .0) (d .1) in
         omega (arith, z, left-word (omega arith) .complete (at m y 1) (q .0) (q .1))
 
-    module _ (z : getD table a 0 ≡ 0 → ⊥) {d : ℕ} (e : d ≡ dualOf t) where
+    module _ (z : getD table a 0 ≡ 0 → ⊥) {d : ℕ} (e : d ≡ negated-tag t) where
       high-left : (getD table a 0 - 1 < count m) × (told m (getD table a 0 - 1) ≡ negate (told m a))
       high-left = noted-some (left-word (omega arith)) z
 
@@ -243,7 +243,7 @@ module _ {m table : List ℕ} {x : ℕ} (p : Table m table x × (x < count m)) {
       high-noted =
           noted-as
           (node-make d (getD table a 0 - 1) 0 (view m)
-          ∙ rw (e, high-left .1) (make-unary (getD table a 0 - 1) a (negate (told m a)) (told m 0) (told m 0) (dualOf t) (negated-unary t h negation-tag .0) (negated-unary t h negation-tag .1))
+          ∙ rw (e, high-left .1) (make-unary (getD table a 0 - 1) a (negate (told m a)) (told m 0) (told m 0) (negated-tag t) (negated-unary t h negation-tag .0) (negated-unary t h negation-tag .1))
           ∙ sym high-is)
 
   pub left-none : 6 ≤ t → (t ≡ 10 → ⊥) → getD table a 0 ≡ 0 → Noted m (negate (told m x)) 0

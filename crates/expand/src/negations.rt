@@ -3,7 +3,8 @@ ghost use mathlib.Core.Path.{_≡_};
 ghost use Prim.Native.Nat.{_+_, _<_};
 ghost use lib.ListN.{length};
 ghost use Rattle.logic.specs.Formula.{negate};
-ghost use Rattle.held.specs.Signs.{node, dualOf};
+ghost use Rattle.logic.specs.Parts.{negated-tag};
+ghost use Rattle.held.specs.Signs.{node};
 ghost use Rattle.held.specs.Words.{count, most, view, told, Wf};
 ghost use Rattle.held.specs.Answers.{Next};
 ghost use Rattle.expand.specs.Negations.{Noted, Table, Above, Negated};
@@ -14,7 +15,7 @@ use held::words::field;
 // The tag of the negation.
 fn dual(tag: usize) -> usize
     requires { ⌜ tag < 13 ⌝ }
-    ensures { λ r. ⌜ r ≡ dualOf tag ⌝ }
+    ensures { λ r. ⌜ r ≡ negated-tag tag ⌝ }
 {
     let duals: [usize; 13] = [1, 0, 3, 2, 5, 4, 7, 6, 9, 8, 6, 12, 11];
     duals[tag]

@@ -10,6 +10,7 @@ use lib.ListN.{getD, length, set, length-set, length-append, replicate, length-r
 use lib.Seq.{getD-set-same, getD-set-other}
 use denote.Enum.Declared.{tagOf}
 use Rattle.logic.specs.Formula.{Formula, One, negate, spell, height, size, among}
+use Rattle.logic.specs.Parts.{make, negated-tag}
 use Rattle.logic.specs.FormulaLaws.{negate-height, negate-size, spell-height, spell-size}
 use Rattle.logic.specs.PartsLaws.{
   make-binary,
@@ -30,7 +31,7 @@ use Rattle.logic.specs.PartsLaws.{
   negated-unary,
 }
 use Rattle.logic.specs.Held.{add, enter}
-use Rattle.held.specs.Signs.{node, make, dualOf}
+use Rattle.held.specs.Signs.{node}
 use Rattle.held.specs.SignsLaws.{node-make, enter-low, enter-mid, enter-high}
 use Rattle.held.specs.EnterLaws.{add-known, add-unknown, added-longer, enter-longer}
 use Rattle.held.specs.OrderLaws.{le-or-lt, eq-or-not}
@@ -64,13 +65,13 @@ pub row-of : (m : List ℕ) (x t a b : ℕ) → Wf m → x < count m → t ≡ a
 row-of m x t a b z l p q r = record { wf = z; low = l; row = rw (p, q, r) (z .formulas .rows x l); here = rw (p, q, r) (held-node m (count m) (z .formulas) x l ∙ node-make _ _ _ _) }
 
 -- the row of a leaf's negation
-pub leaf-row : {m : List ℕ} {x t a b h s : ℕ} (n : ℕ) → Row m x t a b h s → t < 6 → Row m n (dualOf t) a 0 h s
+pub leaf-row : {m : List ℕ} {x t a b h s : ℕ} (n : ℕ) → Row m x t a b h s → t < 6 → Row m n (negated-tag t) a 0 h s
 leaf-row {m} {x} {t} n (unit l x₁ y e f) p = unit (negated-unit t l) x₁ refl e f
 leaf-row {m} {x} {t} n (name k l x₁ y e f) p = let d = negated-name t k l in name (d .0) (d .1) x₁ refl e f
 leaf-row n (two k l x y e f u v) p = absurd (omega arith)
 leaf-row n (one k l x y e f u v) p = absurd (omega arith)
 
-dual-low : {m : List ℕ} {x t a b h s : ℕ} → Row m x t a b h s → t < 6 → dualOf t < 6
+dual-low : {m : List ℕ} {x t a b h s : ℕ} → Row m x t a b h s → t < 6 → negated-tag t < 6
 dual-low {m} {x} {t} (unit l x₁ y e f) p = let d = negated-unit t l in omega arith
 dual-low {m} {x} {t} (name k l x₁ y e f) p = negated-name t k l .1
 dual-low (two k l x y e f u v) p = absurd (omega arith)
@@ -80,7 +81,7 @@ pub step-known : (m memo : List ℕ) (x v : ℕ) → Turn m memo x → v ≡ get
 step-known m memo x zero z e f = absurd (f refl)
 step-known m memo x (suc v) z e f = let k = z .notes .known x v (sym e ∙ omega arith) in let q : suc v - 1 ≡ v = omega arith in record { low = rw q (k .1 .0); here = rw q (k .1 .1) }
 
-pub step-leaf : (m : List ℕ) (x t a b d : ℕ) → RowOf m x t a b → t < 6 → d ≡ dualOf t → LeafAt m x d a
+pub step-leaf : (m : List ℕ) (x t a b d : ℕ) → RowOf m x t a b → t < 6 → d ≡ negated-tag t → LeafAt m x d a
 step-leaf m x t a b d z p e =
     let q : negate (told m x) ≡ make d a (told m a) (told m 0) = rw (z .here, e) (negate-leaf a (told m a) (told m b) (told m a) (told m 0) t p) in
     record {
@@ -89,7 +90,7 @@ step-leaf m x t a b d z p e =
       alone = rw q (enter-low a (told m a) (told m 0) (view m) d (rw e (dual-low (z .row) p)));
     }
 
-pub step-two : (m : List ℕ) (x t a b d : ℕ) → RowOf m x t a b → 6 ≤ t → t < 10 → d ≡ dualOf t → TwoAt m x d a b
+pub step-two : (m : List ℕ) (x t a b d : ℕ) → RowOf m x t a b → 6 ≤ t → t < 10 → d ≡ negated-tag t → TwoAt m x d a b
 step-two m x t a b d z k l e =
     let w = negated-binary t k (omega arith) in
     record { left = row-left (z .row) k; right = row-right (z .row) k (omega arith); low = rw e (w .0); high = rw e (w .1); here = rw (z .here, e) (negate-binary a (told m a) (told m b) 0 t k l) }
@@ -98,7 +99,7 @@ pub step-half : (m : List ℕ) (x t a b : ℕ) → RowOf m x t a b → t ≡ 10 
 step-half m x t a b z e =
     record { left = row-left (z .row) (omega arith); right = row-right (z .row) (omega arith) (omega arith); here = rw (z .here, e) (negate-make-lolli a (told m a) (told m b) 0) }
 
-pub step-single : (m : List ℕ) (x t a b d : ℕ) → RowOf m x t a b → 10 ≤ t → (t ≡ 10 → ⊥) → d ≡ dualOf t → SingleAt m x d a
+pub step-single : (m : List ℕ) (x t a b d : ℕ) → RowOf m x t a b → 10 ≤ t → (t ≡ 10 → ⊥) → d ≡ negated-tag t → SingleAt m x d a
 step-single m x t a b d z k f e =
     let k' : 11 ≤ t = omega arith in
     let l = row-low (z .row) in

@@ -1,9 +1,9 @@
--- The formula that a tag makes of a name or of parts by number, and the tag of the negation. Assumes nothing: these are definitions.
+-- The formula that a tag makes of a name or of parts by number. Assumes nothing: these are definitions.
 use mathlib.Core.List.{List}
 use Prim.Native.Nat.{ℕ}
 use lib.ListN.{getD}
 use Rattle.logic.specs.Formula.{Formula, One}
-unfoldable pub use Rattle.logic.specs.Parts.{signs, make, negated-tag as dualOf}
+use Rattle.logic.specs.Parts.{make}
 
 -- the formula that the tag t makes of the name a, or of the parts numbered a and b in fs
 unfoldable pub node : ℕ → ℕ → ℕ → List Formula → Formula

@@ -5,7 +5,6 @@ use Prim.Native.Nat.{ℕ, suc, _+_, _≤_, _<_, max}
 use lib.ListN.{getD}
 use Rattle.logic.specs.Formula.{Formula, One, OfCourse, WhyNot, height, size}
 use Rattle.logic.specs.Parts.{signs, make}
-unfoldable pub use Rattle.logic.specs.Parts.{tag-of as tagOf}
 use Rattle.logic.specs.PartsLaws.{leaf-tags, binary-tags, unary-tags, height-leaf, height-binary, height-unary, size-unit as unit-size, size-name as name-size, size-binary, size-unary, make-leaf}
 use Rattle.logic.specs.Held.{add, enter}
 use Rattle.held.specs.Signs.{node}

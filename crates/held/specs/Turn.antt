@@ -4,8 +4,9 @@ use mathlib.Core.List.{List}
 use Prim.Native.Nat.{ℕ, _+_, _≤_, _<_}
 use lib.ListN.{getD, length}
 use Rattle.logic.specs.Formula.{Formula, One, negate}
+use Rattle.logic.specs.Parts.{make}
 use Rattle.logic.specs.Held.{add, enter}
-use Rattle.held.specs.Signs.{make, node}
+use Rattle.held.specs.Signs.{node}
 use Rattle.held.specs.Words.{at, count, view, told, Wf, Extends, most}
 use Rattle.held.specs.Answers.{Next, Stored, NoRoom}
 use Rattle.held.specs.declared.turn.Step.{Step}

@@ -7,9 +7,10 @@ use native.Mathlib.Omega.{arith}
 use native.Mathlib.Nat.{lt-of-lt-of-le}
 use lib.ListN.{getD, length, length-append}
 use Rattle.logic.specs.Formula.{Formula, One, height, size, among}
+use Rattle.logic.specs.Parts.{make}
 use Rattle.logic.specs.Held.{add, enter}
 use Rattle.logic.specs.PartsLaws.{height-binary, height-unary, size-binary, size-unary}
-use Rattle.held.specs.Signs.{make, node}
+use Rattle.held.specs.Signs.{node}
 use Rattle.held.specs.SignsLaws.{node-make, enter-low, enter-mid, enter-high}
 use Rattle.held.specs.EnterLaws.{add-unknown, added-longer, enter-longer}
 use Rattle.held.specs.Words.{at, count, most, view, told, Row, unit, name, two, one, Wf, Extends}

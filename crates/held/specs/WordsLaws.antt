@@ -13,9 +13,9 @@ use lib.ListN.{getD, length, length-append, List·getD-append}
 use lib.Seq.{getD-at, ext-getD}
 use Rattle.logic.specs.Formula.{Formula, One, height, size, same, among}
 use Rattle.logic.specs.FormulaLaws.{same-self, different-same}
-use Rattle.logic.specs.Parts.{tag-of, name-of, left-part, right-part}
+use Rattle.logic.specs.Parts.{tag-of, name-of, left-part, right-part, make}
 use Rattle.logic.specs.PartsLaws.{tag-make, name-make, left-make, right-make}
-use Rattle.held.specs.Signs.{make, node}
+use Rattle.held.specs.Signs.{node}
 use Rattle.held.specs.SignsLaws.{
   node-make,
   height-low,

@@ -2,7 +2,7 @@
 ghost use mathlib.Core.Path.{_≡_};
 ghost use Prim.Native.Nat.{_<_};
 ghost use Rattle.logic.specs.Formula.{negate, spell};
-ghost use Rattle.held.specs.Signs.{dualOf};
+ghost use Rattle.logic.specs.Parts.{negated-tag};
 ghost use Rattle.held.specs.Words.{count, told, Wf};
 ghost use Rattle.held.specs.Turn.{Turn, StepOf, Ready, Finished, Turned, EnteredOr, Implication};
 use super::Added;
@@ -13,7 +13,7 @@ use super::words::field;
 // The tag of the negation.
 fn dual(tag: usize) -> usize
     requires { ⌜ tag < 13 ⌝ }
-    ensures { λ r. ⌜ r ≡ dualOf tag ⌝ }
+    ensures { λ r. ⌜ r ≡ negated-tag tag ⌝ }
 {
     let duals: [usize; 13] = [1, 0, 3, 2, 5, 4, 7, 6, 9, 8, 6, 12, 11];
     duals[tag]

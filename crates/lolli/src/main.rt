@@ -1,4 +1,5 @@
 // Asks one question, in bytes on standard input, and prints the answer's number, the counters, and the nodes of the tree that was found (document 01, "Settled runs").
+ghost use mathlib.Core.Path.{_≡_};
 ghost use Prim.Native.Nat.{_≤_};
 ghost use lib.ListN.{length};
 ghost use Rattle.tree.specs.Places.{NodeFound};
@@ -169,15 +170,27 @@ fn asked(question: &[u8], tree: &mut [u8]) -> Answer {
     prover::prove(question, DEPTH, BUDGET, true, &mut mem, &mut work, tree)
 }
 
+fn text() -> [u8; TEXT]
+    ensures { λ r. ⌜ 327695 ≡ length r ⌝ }
+{
+    [0; TEXT]
+}
+
 fn put_nodes(tree: &[u8]) {
-    let mut text = [0u8; TEXT];
-    put_tree(tree, &mut text);
+    let mut buf = text();
+    put_tree(tree, &mut buf);
+}
+
+fn message() -> [u8; MESSAGE]
+    ensures { λ r. ⌜ 65539 ≡ length r ⌝ }
+{
+    [0; MESSAGE]
 }
 
 fn main() {
-    let mut question = [0u8; MESSAGE];
+    let mut question = message();
     let n = io::read_full(STDIN_FILENO, &mut question);
-    let mut tree = [0u8; MESSAGE];
+    let mut tree = message();
     match asked(&question[..n], &mut tree) {
         Answer::Found(_, c) => {
             put_answer(0, c);

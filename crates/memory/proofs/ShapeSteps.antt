@@ -6,9 +6,8 @@ use native.Mathlib.Omega.{arith}
 use lib.ListN.{getD, length, take-append-drop}
 use lib.Seq.{getD-take}
 use Rattle.logic.specs.Formula as formula
+use Rattle.logic.specs.Parts.{signs, make, tag-of}
 use Rattle.logic.specs.Formula.{Formula, spell}
-use Rattle.held.specs.Signs.{signs, make}
-use Rattle.held.specs.SignsLaws.{tagOf}
 use Rattle.held.specs.Turn as turn
 use Rattle.held.specs.Words as formulas
 use Rattle.held.specs.WordsLaws.{held-node, held-length, row-low, tag-node}
@@ -119,7 +118,7 @@ module _ (m : List ℕ) {x t a b : ℕ} (z : RowOf (formula-words m) x t a b) wh
 
 -- an implication by its words
 pub implication-held : (m : List ℕ) (x : ℕ) → Implication m x → turn.Implication (formula-words m) x
-unfolding told held-count tagOf
+unfolding told held-count tag-of
 implication-held m x z =
     let f = formula-words m in
     let w = z .wf .formulas in
@@ -127,7 +126,7 @@ implication-held m x z =
     record {
       wf = w;
       low = z .low;
-      lolli = sym (tag-node _ _ _ _ (row-low row)) ∙ ap tagOf (sym (held-node f (formulas.count f) (w .formulas) x (z .low)) ∙ z .here);
+      lolli = sym (tag-node _ _ _ _ (row-low row)) ∙ ap tag-of (sym (held-node f (formulas.count f) (w .formulas) x (z .low)) ∙ z .here);
     }
 
 -- an implication spelled out: the formulas are entered, and the failures stay as they are

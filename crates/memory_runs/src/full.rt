@@ -4,9 +4,8 @@ use super::words::put;
 use super::words::put_failure;
 use super::words::put_formula;
 use super::words::put_order;
-use super::words::same;
 use super::words::say;
-use super::words::say_kept;
+use super::words::say_both;
 use super::words::say_number;
 use memory::shape::Shape;
 use memory::shape::Spelling;
@@ -72,7 +71,7 @@ fn write_implications(mem: &mut [u16]) {
 }
 
 // a0⊸a1 wants two formulas more, the negation of a0 and its own spelling.
-pub fn formulas(mem: &mut [u16]) {
+fn formulas(mem: &mut [u16]) {
     write_names(mem);
     write_implications(mem);
     say(b"2,046 formulas", memory::well_formed(mem));
@@ -81,37 +80,41 @@ pub fn formulas(mem: &mut [u16]) {
 }
 
 // a1⊸a0 wants two more again.
-pub fn one_formula_more(mem: &mut [u16]) {
-    let mut before = [0u16; 44290];
+fn one_formula_more(mem: &mut [u16]) {
+    let mut before = [0u16; memory::WORDS];
     copy(mem, &mut before);
-    say_number(b"the same again", spell(mem, 2044));
-    say_kept(same(mem, &before));
-    say_number(b"the 2,049th formula", spell(mem, 2045));
-    say_kept(same(mem, &before));
+    say_both(b"the same again", spell(mem, 2044), mem, &before);
+    say_both(b"the 2,049th formula", spell(mem, 2045), mem, &before);
 }
 
-// The sequents a0 up to a998, each of one formula.
+// The sequents a1 up to a999, each of one formula.
 fn write_failures(mem: &mut [u16]) {
     let mut i: u16 = 0;
     while i < 999 {
-        put_failure(mem, i, 1, 2 * i, 0, 0);
+        put_failure(mem, i, 2 * i + 2);
         i += 1;
     }
     put(mem, 12289, 999);
 }
 
-pub fn failures(mem: &mut [u16]) {
+// a0 comes before all of them: every order word moves.
+fn failures(mem: &mut [u16]) {
     write_failures(mem);
     say(b"999 failures", memory::well_formed(mem));
-    say_number(b"the 1,000th failure", record_one(mem, 999));
+    say_number(b"the 1,000th failure", record_one(mem, 0));
     say(b"1,000 failures", memory::well_formed(mem));
 }
 
-pub fn one_failure_more(mem: &mut [u16]) {
-    let mut before = [0u16; 44290];
+fn one_failure_more(mem: &mut [u16]) {
+    let mut before = [0u16; memory::WORDS];
     copy(mem, &mut before);
-    say_number(b"one that is known", record_one(mem, 17));
-    say_kept(same(mem, &before));
-    say_number(b"the 1,001st failure", record_one(mem, 1000));
-    say_kept(same(mem, &before));
+    say_both(b"one that is known", record_one(mem, 17), mem, &before);
+    say_both(b"the 1,001st failure", record_one(mem, 1000), mem, &before);
+}
+
+pub fn fill(mem: &mut [u16]) {
+    formulas(mem);
+    one_formula_more(mem);
+    failures(mem);
+    one_failure_more(mem);
 }

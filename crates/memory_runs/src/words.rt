@@ -1,12 +1,5 @@
-// Reading, writing and comparing words, and saying an answer. A place that a slice has not reads as 0 and is not written.
+// Writing and comparing words, and saying an answer. A place that a slice has not is not written.
 use libc::STDOUT_FILENO;
-
-pub fn get(mem: &[u16], at: usize) -> u16 {
-    if at < mem.len() {
-        return mem[at];
-    }
-    0
-}
 
 pub fn put(mem: &mut [u16], at: usize, v: u16) {
     if at < mem.len() {
@@ -24,18 +17,17 @@ pub fn put_formula(mem: &mut [u16], i: u16, tag: u16, a: u16, b: u16, h: u16, s:
     put(mem, at + 4, s);
 }
 
-// Order word j.
+// Order word j of the formulas.
 pub fn put_order(mem: &mut [u16], j: u16, i: u16) {
     put(mem, 10241 + (j as usize), i);
 }
 
-// Failure i with n items, of which the first three are x, y and z.
-pub fn put_failure(mem: &mut [u16], i: u16, n: u16, x: u16, y: u16, z: u16) {
+// Failure i with the one item x, the i-th in order too.
+pub fn put_failure(mem: &mut [u16], i: u16, x: u16) {
     let at = 12290 + 32 * (i as usize);
-    put(mem, at, n);
+    put(mem, at, 1);
     put(mem, at + 1, x);
-    put(mem, at + 2, y);
-    put(mem, at + 3, z);
+    put(mem, 44290 + (i as usize), i);
 }
 
 // The words of one slice written over another's.
@@ -63,13 +55,17 @@ pub fn same(a: &[u16], b: &[u16]) -> bool {
 }
 
 // The answer of the test, as document 01 numbers it.
-pub fn say(what: &[u8], fine: bool) {
-    io::write_all(STDOUT_FILENO, what);
+pub fn say_answer(fine: bool) {
     if fine {
         io::write_all(STDOUT_FILENO, b": 0\n");
     } else {
         io::write_all(STDOUT_FILENO, b": 12\n");
     }
+}
+
+pub fn say(what: &[u8], fine: bool) {
+    io::write_all(STDOUT_FILENO, what);
+    say_answer(fine);
 }
 
 // An answer that may be 0, 7, 9 or 12.
@@ -92,4 +88,10 @@ pub fn say_kept(kept: bool) {
     } else {
         io::write_all(STDOUT_FILENO, b"  words changed\n");
     }
+}
+
+// An answer, and whether all words are as before.
+pub fn say_both(what: &[u8], answer: u8, mem: &[u16], before: &[u16]) {
+    say_number(what, answer);
+    say_kept(same(mem, before));
 }

@@ -1,5 +1,6 @@
--- What printing writes at a tag, and what a walk over a text does: it counts, or writes, and stops where the output buffer is too short. Assumes nothing.
+-- What printing writes at a tag, and what a walk over a text does: it counts, or writes, and writes no more once the output buffer is too short. Assumes nothing.
 use mathlib.Core.Path.{_≡_}
+use mathlib.Core.Bool.{Bool, true, false}
 use mathlib.Core.List.{List, [], _∷_, _++_}
 use Prim.Native.Nat.{ℕ, _+_, _≤_, _<_}
 use lib.ListN.{length, getD}
@@ -11,8 +12,7 @@ use Rattle.print.specs.declared.Style.{Style}
 use Rattle.print.specs.declared.Style.the-variants.{Unicode, Ascii}
 use Rattle.print.specs.declared.Pass.{Pass}
 use Rattle.print.specs.declared.Pass.the-variants.{Count, Write}
-use Rattle.print.specs.declared.Room.{Room}
-use Rattle.print.specs.declared.Room.the-variants.{Left, Short}
+use Rattle.print.specs.declared.Place.{Place}
 
 abbrev pub signs-of : Style → Signs
 signs-of Unicode = unicode
@@ -43,30 +43,31 @@ sign-texts σ =
 unfoldable pub sign-text : Signs → ℕ → List ℕ
 sign-text σ t = getD (sign-texts σ) t []
 
--- of those, the ones that both printings write alike
-abbrev pub plain-texts : List (List ℕ)
-plain-texts = (49 ∷ []) ∷ [] ∷ [] ∷ (48 ∷ []) ∷ [] ∷ [] ∷ [] ∷ [] ∷ spaced (38 ∷ []) ∷ [] ∷ [] ∷ (33 ∷ []) ∷ (63 ∷ []) ∷ []
-
-unfoldable pub plain-text : ℕ → List ℕ
-plain-text t = getD plain-texts t []
+-- the rows of the code's table: the signs of one printing, then those of the other
+abbrev pub sign-row : Style → ℕ → ℕ
+sign-row Unicode t = t
+sign-row Ascii t = 13 + t
 
 -- the output buffer after a walk over a text
 unfoldable pub laid : Pass → List ℕ → ℕ → List ℕ → List ℕ
 laid Count out to text = out
 laid Write out to text = sets out to text
 
--- a walk over a text from the place `to` of the output buffer, with reading to go on at `next`
-module _ (pass : Pass) (out : List ℕ) (to : ℕ) (text : List ℕ) (next : ℕ) where
-  pub data Emitted (r : Room) (last : List ℕ) : Type 0 where
-    fits : to + length text ≤ length out → r ≡ Left next (to + length text) → last ≡ laid pass out to text → Emitted r last
-    short : length out < to + length text → r ≡ Short → (pass ≡ Count → last ≡ out) → Emitted r last
+-- a place where all has fitted
+abbrev pub place : (next to : ℕ) → Place
+place n t = record { next = n; to = t; fits = true }
 
--- a formula stands at a place, and writing is inside the output buffer
-pub record Ready (s : List ℕ) (at : ℕ) (out : List ℕ) (to : ℕ) : Type 0 where
+-- a walk over a text from the place `to` of the output buffer, if all fitted so far; reading is at `next` then
+module _ (pass : Pass) (out : List ℕ) (to : ℕ) (so-far : Bool) (text : List ℕ) (next : ℕ) where
+  pub data Emitted (r : Place) (last : List ℕ) : Type 0 where
+    went : so-far ≡ true → to + length text ≤ length out → r ≡ place next (to + length text) → last ≡ laid pass out to text → Emitted r last
+    stopped : (so-far ≡ true → length out < to + length text) → r .next ≡ next → r .fits ≡ false → length last ≡ length out → (pass ≡ Count → last ≡ out) → Emitted r last
+
+-- a formula stands where reading goes on
+pub record Ready (s : List ℕ) (at : ℕ) : Type 0 where
   pub formula : Formula
   pub stands : Stands s at formula
-  pub room : to ≤ length out
 
 -- the text of the formula there
-pub record Printed (s : List ℕ) (at : ℕ) (out : List ℕ) (to : ℕ) (style : Style) (pass : Pass) (r : Room) (last : List ℕ) : Type 0 where
-  pub text : (f : Formula) → Stands s at f → Emitted pass out to (printed (signs-of style) f) (at + size f) r last
+pub record Printed (s : List ℕ) (p : Place) (out : List ℕ) (style : Style) (pass : Pass) (r : Place) (last : List ℕ) : Type 0 where
+  pub text : (f : Formula) → Stands s (p .next) f → Emitted pass out (p .to) (p .fits) (printed (signs-of style) f) (p .next + size f) r last

@@ -1,33 +1,34 @@
 -- Laws of printing: how walks over texts follow one another, the digits of a number, and the text of each sign. Assumes nothing.
 use mathlib.Core.Path.{_≡_, refl, sym, ap, subst, _∙_}
-use mathlib.Core.Bool.{Bool, true, false}
+use mathlib.Core.Bool.{Bool, true, false, false≢true}
 use mathlib.Core.List.{List, [], _∷_, _++_, append-assoc, append-nil}
 use Prim.Native.Nat.{ℕ, zero, suc, _+_, _-_, _*_, _/_, _%_, _≤_, _<_}
+use native.Mathlib.Nat.{le-of-suc-le-suc, not-suc-le-zero}
 use native.Mathlib.Omega.{arith}
 use native.Mathlib.Numerals.{add-one}
-use borrow.Author.Tests.{eq-eqb, ne-eqb, eqb-true, eqb-false}
-use lib.Dec.{eqb}
-use lib.ListN.{length, getD, set, take, length-append}
+use borrow.Author.Tests.{eq-eqb, ne-eqb, eqb-false}
+use lib.Dec.{T, eqb, leb, leb→le}
+use lib.ListN.{length, getD, set, take, drop, length-append}
 use lib.Seq.{sets, length-sets, take-suc, length-take-le}
 use Rattle.logic.specs.Formula.{Formula, size}
 use Rattle.logic.specs.Text.{Signs, unicode, ascii, digits-within, digits, name, infix-text, printed}
 use Rattle.wire.specs.Read.{Sign, unit, named, binary, unary, signs}
-use Rattle.wire.specs.Gives.{AllAt}
-use Rattle.formula.specs.Signs.{At, Stands, UnitAt, NamedAt, BinaryAt, UnaryAt}
+use Rattle.wire.specs.Gives.{AllAt, _&_}
+use Rattle.formula.specs.Signs.{At, Stands, BinaryAt, UnaryAt}
 use Rattle.formula.specs.Calls.{Writes}
 use Rattle.formula.specs.CallsLaws.{Whole, whole-stands, writes-short, writes-bytes}
 use Rattle.formula.specs.declared.Refusal.the-variants.{OutputShort}
 use Rattle.formula.specs.declared.Written.the-variants.{Bytes, Refused}
 use Rattle.formula.specs.Reading.{form-of}
 use Rattle.formula.specs.declared.Form.the-variants.{Unit, Named, Binary, Unary, Unknown}
-use Rattle.formula.specs.SignsLaws.{all-at, shaped, starts-inside}
+use Rattle.formula.specs.SignsLaws.{all-at, shaped, starts-inside, tag-below}
 use Rattle.formula.specs.RewritingLaws.{sets-append}
-use Rattle.print.specs.Printing.{signs-of, spaced, sign-texts, sign-text, plain-texts, plain-text, laid, Emitted, fits, short, Ready, Printed}
+use Rattle.print.specs.Printing.{signs-of, spaced, sign-texts, sign-text, sign-row, laid, place, Emitted, went, stopped, Ready, Printed}
 use Rattle.print.specs.declared.Style.{Style}
+use Rattle.print.specs.declared.Style.the-variants.{Unicode, Ascii}
 use Rattle.print.specs.declared.Pass.{Pass}
 use Rattle.print.specs.declared.Pass.the-variants.{Count, Write}
-use Rattle.print.specs.declared.Room.{Room}
-use Rattle.print.specs.declared.Room.the-variants.{Left, Short}
+use Rattle.print.specs.declared.Place.{Place}
 
 length-laid : (pass : Pass) (out : List ℕ) (to : ℕ) (text : List ℕ) → length (laid pass out to text) ≡ length out
 unfolding laid
@@ -46,47 +47,30 @@ laid-count Write out to text e = let z : _≡_ {A = ℕ} 0 1 = cc in absurd (ome
 
 -- ---- walks, one behind the other
 
--- where a walk ended, there is room for more
-pub record Ended (pass : Pass) (out : List ℕ) (to : ℕ) (a : List ℕ) (n : ℕ) (mid : List ℕ) (next place : ℕ) : Type 0 where
-  pub read : next ≡ n
-  pub wrote : place ≡ to + length a
-  pub room : place ≤ length mid
-  pub same : length mid ≡ length out
-  pub left : mid ≡ laid pass out to a
+module _ {pass : Pass} {out : List ℕ} {to : ℕ} {so-far : Bool} {a : List ℕ} {n : ℕ} {q : Place} {mid : List ℕ} where
+  -- reading is where it was said to be
+  pub read-on : Emitted pass out to so-far a n q mid → q .next ≡ n
+  read-on (went f h e l) = ap (λ (x : Place). x .next) e
+  read-on (stopped h e f k l) = e
 
-module _ {pass : Pass} {out : List ℕ} {to : ℕ} {a : List ℕ} {n : ℕ} {r : Room} {mid : List ℕ} where
-  pub ended : {next place : ℕ} → Emitted pass out to a n r mid → r ≡ Left next place → Ended pass out to a n mid next place
-  ended {next} {place} (fits h e l) q =
-      let p : place ≡ to + length a = cc in
-      let kept : length mid ≡ length out = ap length l ∙ length-laid pass out to a in
-      record { read = cc; wrote = p; room = omega arith; same = kept; left = l }
-  ended (short h e l) q = let z : _≡_ {A = ℕ} 0 1 = cc in absurd (omega arith)
-
-  -- a walk that stopped in a part of the text stopped in the text
-  pub stopped : (text : List ℕ) (next : ℕ) → Emitted pass out to a n r mid → r ≡ Short → length a ≤ length text → Emitted pass out to text next Short mid
-  stopped text next (fits h e l) q more = let z : _≡_ {A = ℕ} 0 1 = cc in absurd (omega arith)
-  stopped text next (short h e l) q more = short (omega arith) refl l
-
-  pub then-emitted : {next place next₂ : ℕ} {b : List ℕ} {r₂ : Room} {last : List ℕ}
-      → Emitted pass out to a n r mid → r ≡ Left next place → Emitted pass mid place b next₂ r₂ last → Emitted pass out to (a ++ b) next₂ r₂ last
-  then-emitted {next} {place} {next₂} {b} {r₂} {last} first q (fits h e l) =
-      let w = ended first q in
-      let p : place ≡ to + length a = w .wrote in
-      let at-end : place + length b ≡ to + length (a ++ b) = omega (arith, length-append a b) in
-      fits (omega (arith, w .same)) (e ∙ ap (Left next₂) at-end) (l ∙ rw (w .left, p) (laid-append pass out to a b))
-  then-emitted {next} {place} {next₂} {b} {r₂} {last} first q (short h e l) =
-      let w = ended first q in
-      short (omega (arith, w .same, w .wrote, length-append a b)) e (λ c. l c ∙ w .left ∙ laid-count pass out to a c)
+  module _ {b : List ℕ} {m : ℕ} {r : Place} {last : List ℕ} where
+    pub then-emitted : Emitted pass out to so-far a n q mid → Emitted pass mid (q .to) (q .fits) b m r last → Emitted pass out to so-far (a ++ b) m r last
+    then-emitted (went f h e l) (went f₂ h₂ e₂ l₂) =
+        let p : q .to ≡ to + length a = ap (λ (x : Place). x .to) e in
+        let wide : length mid ≡ length out = ap length l ∙ length-laid pass out to a in
+        let at-end : q .to + length b ≡ to + length (a ++ b) = omega (arith, length-append a b) in
+        went f (omega arith) (e₂ ∙ ap (place m) at-end) (l₂ ∙ rw (l, p) (laid-append pass out to a b))
+    then-emitted (went f h e l) (stopped h₂ e₂ f₂ k₂ l₂) =
+        let p : q .to ≡ to + length a = ap (λ (x : Place). x .to) e in
+        let wide : length mid ≡ length out = ap length l ∙ length-laid pass out to a in
+        stopped (λ _. omega (arith, h₂ (ap (λ (x : Place). x .fits) e), length-append a b)) e₂ f₂ (k₂ ∙ wide) (λ c. l₂ c ∙ l ∙ laid-count pass out to a c)
+    then-emitted (stopped h e f k l) (went f₂ h₂ e₂ l₂) = absurd (false≢true (sym f ∙ f₂))
+    then-emitted (stopped h e f k l) (stopped h₂ e₂ f₂ k₂ l₂) = stopped (λ g. omega (arith, h g, length-append a b)) e₂ f₂ (k₂ ∙ k) (λ c. l₂ c ∙ l c)
 
 -- the same walk over the same text
-pub as-text : {pass : Pass} {out : List ℕ} {to : ℕ} {a b : List ℕ} {n m : ℕ} {r : Room} {last : List ℕ} → Emitted pass out to a n r last → a ≡ b → n ≡ m → Emitted pass out to b m r last
-as-text {pass} {out} {to} {a} {b} {n} {m} {r} {last} e p q = rw (← p, ← q) e
-
--- nothing to write
-pub emitted-nothing : (pass : Pass) (out : List ℕ) (to next : ℕ) → to ≤ length out → Emitted pass out to [] next (Left next to) out
-unfolding laid
-emitted-nothing Count out to next h = let e : to + 0 ≡ to = omega arith in fits (omega arith) (ap (Left next) (sym e)) refl
-emitted-nothing Write out to next h = let e : to + 0 ≡ to = omega arith in fits (omega arith) (ap (Left next) (sym e)) refl
+pub as-text : {pass : Pass} {out : List ℕ} {to : ℕ} {so-far : Bool} {a b : List ℕ} {n m : ℕ} {r : Place} {last : List ℕ}
+    → Emitted pass out to so-far a n r last → a ≡ b → n ≡ m → Emitted pass out to so-far b m r last
+as-text {pass} {out} {to} {so-far} {a} {b} {n} {m} {r} {last} e p q = rw (← p, ← q) e
 
 -- ---- numbers
 
@@ -101,14 +85,20 @@ digits-enough (suc fuel) (suc fuel₂) n h h₂ = go (eqb (n / 10) 0) refl (digi
     go true e same = rw (e, digits-within)
     go false e same = rw (e, digits-within) (ap (λ (l : List ℕ). l ++ ((48 + n % 10) ∷ [])) (same (omega (arith, eqb-false (n / 10) 0 e)) (omega (arith, eqb-false (n / 10) 0 e))))
 
-pub digits-one : (n : ℕ) → n < 10 → digits n ≡ (48 + n % 10) ∷ []
+digits-one : (n : ℕ) → n < 10 → digits n ≡ (48 + n % 10) ∷ []
 unfolding digits-within
 digits-one n h = rw (eq-eqb (n / 10) 0 (omega arith), digits-within)
 
-pub digits-more : (n : ℕ) → 10 ≤ n → digits n ≡ digits (n / 10) ++ ((48 + n % 10) ∷ [])
+digits-more : (n : ℕ) → 10 ≤ n → digits n ≡ digits (n / 10) ++ ((48 + n % 10) ∷ [])
 unfolding digits-within
 digits-more n h =
     rw (ne-eqb (n / 10) 0 (λ e. omega arith), digits-within) (ap (λ (l : List ℕ). l ++ ((48 + n % 10) ∷ [])) (digits-enough n (suc (n / 10)) (n / 10) (omega arith) (omega arith)))
+
+pub name-one : (n : ℕ) → n < 10 → name n ≡ 97 ∷ (48 + n % 10) ∷ []
+name-one n h = ap (λ (l : List ℕ). 97 ∷ l) (digits-one n h)
+
+pub name-more : (n : ℕ) → 10 ≤ n → name n ≡ name (n / 10) ++ ((48 + n % 10) ∷ [])
+name-more n h = ap (λ (l : List ℕ). 97 ∷ l) (digits-more n h)
 
 -- ---- a copy, byte by byte
 
@@ -119,57 +109,57 @@ copied-more l to text i h =
 
 -- ---- a text, as the code passes over it
 
-module _ {pass : Pass} {out : List ℕ} {to : ℕ} (text : List ℕ) (next : ℕ) (room : to ≤ length out) where
-  pub emit-short : length out - to < length text → Emitted pass out to text next Short out
-  emit-short h = short (omega arith) refl (λ c. refl)
+pub emit-no-more : {pass : Pass} {out : List ℕ} (p : Place) (text : List ℕ) → p .fits ≡ false → Emitted pass out (p .to) (p .fits) text (p .next) p out
+emit-no-more p text f = stopped (λ g. absurd (false≢true (sym f ∙ g))) refl f refl (λ c. refl)
 
-  pub emit-written : {last : List ℕ} → pass ≡ Write → length text ≤ length out - to → last ≡ sets out to text → Emitted pass out to text next (Left next (to + length text)) last
-  unfolding laid
-  emit-written p h e = fits (omega arith) refl (e ∙ sym (ap (λ (x : Pass). laid x out to text) p))
+module _ {pass : Pass} {out : List ℕ} {to : ℕ} {so-far : Bool} (text : List ℕ) (next : ℕ) where
+  pub emit-short : length out < to + length text → Emitted pass out to so-far text next (record { next = next; to = to; fits = false }) out
+  emit-short h = stopped (λ _. h) refl refl refl (λ c. refl)
 
-  pub emit-counted : pass ≡ Count → length text ≤ length out - to → Emitted pass out to text next (Left next (to + length text)) out
-  unfolding laid
-  emit-counted p h = fits (omega arith) refl (sym (ap (λ (x : Pass). laid x out to text) p))
+  module _ (f : so-far ≡ true) (room : to ≤ length out) (h : length text ≤ length out - to) where
+    pub emit-written : {last : List ℕ} → pass ≡ Write → last ≡ sets out to text → Emitted pass out to so-far text next (place next (to + length text)) last
+    unfolding laid
+    emit-written p e = went f (omega arith) refl (e ∙ sym (ap (λ (x : Pass). laid x out to text) p))
+
+    pub emit-counted : pass ≡ Count → Emitted pass out to so-far text next (place next (to + length text)) out
+    unfolding laid
+    emit-counted p = went f (omega arith) refl (sym (ap (λ (x : Pass). laid x out to text) p))
 
 -- ---- signs by tag
 
--- a tag that none of the code's arms names
-pub plain-none : (t : ℕ) → (t ≡ 0 → ⊥) → (t ≡ 3 → ⊥) → (t ≡ 8 → ⊥) → (t ≡ 11 → ⊥) → (t ≡ 12 → ⊥) → plain-text t ≡ []
-unfolding plain-text
-plain-none zero n0 n3 n8 n11 n12 = absurd (n0 refl)
-plain-none (suc zero) n0 n3 n8 n11 n12 = refl
-plain-none (suc (suc zero)) n0 n3 n8 n11 n12 = refl
-plain-none (suc (suc (suc zero))) n0 n3 n8 n11 n12 = absurd (n3 refl)
-plain-none (suc (suc (suc (suc zero)))) n0 n3 n8 n11 n12 = refl
-plain-none (suc (suc (suc (suc (suc zero))))) n0 n3 n8 n11 n12 = refl
-plain-none (suc (suc (suc (suc (suc (suc zero)))))) n0 n3 n8 n11 n12 = refl
-plain-none (suc (suc (suc (suc (suc (suc (suc zero))))))) n0 n3 n8 n11 n12 = refl
-plain-none (suc (suc (suc (suc (suc (suc (suc (suc zero)))))))) n0 n3 n8 n11 n12 = absurd (n8 refl)
-plain-none (suc (suc (suc (suc (suc (suc (suc (suc (suc zero))))))))) n0 n3 n8 n11 n12 = refl
-plain-none (suc (suc (suc (suc (suc (suc (suc (suc (suc (suc zero)))))))))) n0 n3 n8 n11 n12 = refl
-plain-none (suc (suc (suc (suc (suc (suc (suc (suc (suc (suc (suc zero))))))))))) n0 n3 n8 n11 n12 = absurd (n11 refl)
-plain-none (suc (suc (suc (suc (suc (suc (suc (suc (suc (suc (suc (suc zero)))))))))))) n0 n3 n8 n11 n12 = absurd (n12 refl)
-plain-none (suc (suc (suc (suc (suc (suc (suc (suc (suc (suc (suc (suc (suc t))))))))))))) n0 n3 n8 n11 n12 = refl
+-- the code's table: the bytes, and where each sign starts
+abbrev pub sign-bytes : List ℕ
+sign-bytes = 49 ∷ 226 ∷ 138 ∷ 165 ∷ 226 ∷ 138 ∷ 164 ∷ 48 ∷ 226 ∷ 138 ∷ 165 ∷ 32 ∷ 226 ∷ 138 ∷ 151 ∷ 32 ∷ 32 ∷ 226 ∷ 133 ∷ 139 ∷ 32 ∷ 32 ∷ 38 ∷ 32 ∷ 32 ∷ 226 ∷ 138 ∷ 149 ∷ 32 ∷ 32 ∷ 226 ∷ 138 ∷ 184 ∷ 32 ∷ 33 ∷ 63 ∷ 49 ∷ 98 ∷ 111 ∷ 116 ∷ 116 ∷ 111 ∷ 112 ∷ 48 ∷ 94 ∷ 32 ∷ 42 ∷ 32 ∷ 32 ∷ 124 ∷ 32 ∷ 32 ∷ 38 ∷ 32 ∷ 32 ∷ 43 ∷ 32 ∷ 32 ∷ 45 ∷ 111 ∷ 32 ∷ 33 ∷ 63 ∷ []
 
-pub sign-plain : (σ : Signs) → σ .with ≡ 38 ∷ [] → (t : ℕ) → (t ≡ 1 → ⊥) → (t ≡ 2 → ⊥) → (t ≡ 5 → ⊥) → (t ≡ 6 → ⊥) → (t ≡ 7 → ⊥) → (t ≡ 9 → ⊥) → (t ≡ 10 → ⊥) → plain-text t ≡ sign-text σ t
-unfolding plain-text sign-text
-sign-plain σ e zero n1 n2 n5 n6 n7 n9 n10 = refl
-sign-plain σ e (suc zero) n1 n2 n5 n6 n7 n9 n10 = absurd (n1 refl)
-sign-plain σ e (suc (suc zero)) n1 n2 n5 n6 n7 n9 n10 = absurd (n2 refl)
-sign-plain σ e (suc (suc (suc zero))) n1 n2 n5 n6 n7 n9 n10 = refl
-sign-plain σ e (suc (suc (suc (suc zero)))) n1 n2 n5 n6 n7 n9 n10 = refl
-sign-plain σ e (suc (suc (suc (suc (suc zero))))) n1 n2 n5 n6 n7 n9 n10 = absurd (n5 refl)
-sign-plain σ e (suc (suc (suc (suc (suc (suc zero)))))) n1 n2 n5 n6 n7 n9 n10 = absurd (n6 refl)
-sign-plain σ e (suc (suc (suc (suc (suc (suc (suc zero))))))) n1 n2 n5 n6 n7 n9 n10 = absurd (n7 refl)
-sign-plain σ e (suc (suc (suc (suc (suc (suc (suc (suc zero)))))))) n1 n2 n5 n6 n7 n9 n10 = ap spaced (sym e)
-sign-plain σ e (suc (suc (suc (suc (suc (suc (suc (suc (suc zero))))))))) n1 n2 n5 n6 n7 n9 n10 = absurd (n9 refl)
-sign-plain σ e (suc (suc (suc (suc (suc (suc (suc (suc (suc (suc zero)))))))))) n1 n2 n5 n6 n7 n9 n10 = absurd (n10 refl)
-sign-plain σ e (suc (suc (suc (suc (suc (suc (suc (suc (suc (suc (suc zero))))))))))) n1 n2 n5 n6 n7 n9 n10 = refl
-sign-plain σ e (suc (suc (suc (suc (suc (suc (suc (suc (suc (suc (suc (suc zero)))))))))))) n1 n2 n5 n6 n7 n9 n10 = refl
-sign-plain σ e (suc (suc (suc (suc (suc (suc (suc (suc (suc (suc (suc (suc (suc t))))))))))))) n1 n2 n5 n6 n7 n9 n10 = refl
+abbrev pub sign-starts : List ℕ
+sign-starts = 0 ∷ 1 ∷ 4 ∷ 7 ∷ 8 ∷ 8 ∷ 11 ∷ 16 ∷ 21 ∷ 24 ∷ 29 ∷ 34 ∷ 35 ∷ 36 ∷ 37 ∷ 40 ∷ 43 ∷ 44 ∷ 44 ∷ 45 ∷ 48 ∷ 51 ∷ 54 ∷ 57 ∷ 61 ∷ 62 ∷ 63 ∷ []
 
-pub digits-shorter : (n : ℕ) → 10 ≤ n → length (digits (n / 10)) ≤ length (digits n)
-digits-shorter n h = omega (arith, ap length (digits-more n h), length-append (digits (n / 10)) ((48 + n % 10) ∷ []))
+abbrev pub sign-cut : ℕ → List ℕ
+sign-cut row = take (getD sign-starts (row + 1) 0 - getD sign-starts row 0) (drop (getD sign-starts row 0) sign-bytes)
+
+-- what holds of each entry holds at its place
+entry-at : (W : ℕ → List ℕ → Type 0) (xs : List (List ℕ)) → AllAt W xs → (t : ℕ) → t < length xs → W t (getD xs t [])
+entry-at W [] all t h = absurd (not-suc-le-zero h)
+entry-at W (x ∷ xs) all zero h = all .0
+entry-at W (x ∷ xs) all (suc t) h = entry-at (λ n. W (suc n)) xs (all .1) t (le-of-suc-le-suc h)
+
+-- a row of the code's table: from its start to the next one's, a text
+pub record Row (row : ℕ) (text : List ℕ) : Type 0 where
+  pub cut : sign-cut row ≡ text
+  pub in-order : getD sign-starts row 0 ≤ getD sign-starts (row + 1) 0
+  pub inside-all : getD sign-starts (row + 1) 0 ≤ 63
+
+row-made : (row : ℕ) (text : List ℕ) → sign-cut row ≡ text → T (leb (getD sign-starts row 0) (getD sign-starts (row + 1) 0)) → T (leb (getD sign-starts (row + 1) 0) 63) → Row row text
+row-made row text e h k = record { cut = e; in-order = leb→le _ _ h; inside-all = leb→le _ _ k }
+
+-- the code's table is that of the printing
+row-is : (style : Style) (t : ℕ) → t < 13 → Row (sign-row style t) (sign-text (signs-of style) t)
+unfolding sign-text
+row-is Unicode t h = entry-at (λ n x. Row (sign-row Unicode n) x) (sign-texts unicode) (row-made _ _ refl tt tt & row-made _ _ refl tt tt & row-made _ _ refl tt tt & row-made _ _ refl tt tt & row-made _ _ refl tt tt & row-made _ _ refl tt tt & row-made _ _ refl tt tt & row-made _ _ refl tt tt & row-made _ _ refl tt tt & row-made _ _ refl tt tt & row-made _ _ refl tt tt & row-made _ _ refl tt tt & row-made _ _ refl tt tt & tt) t h
+row-is Ascii t h = entry-at (λ n x. Row (sign-row Ascii n) x) (sign-texts ascii) (row-made _ _ refl tt tt & row-made _ _ refl tt tt & row-made _ _ refl tt tt & row-made _ _ refl tt tt & row-made _ _ refl tt tt & row-made _ _ refl tt tt & row-made _ _ refl tt tt & row-made _ _ refl tt tt & row-made _ _ refl tt tt & row-made _ _ refl tt tt & row-made _ _ refl tt tt & row-made _ _ refl tt tt & row-made _ _ refl tt tt & tt) t h
+
+pub row-at : {row : ℕ} (style : Style) (t : ℕ) → row ≡ sign-row style t → t < 13 → Row row (sign-text (signs-of style) t)
+row-at style t e h = rw e (row-is style t h)
 
 -- ---- the text of each sign
 
@@ -184,205 +174,116 @@ infix-left sign a b = simp append-assoc
 
 signs-printed : AllAt Prints signs
 unfolding printed sign-text
-signs-printed = (
-  λ σ. refl,
-  (
-    λ σ. refl,
-    (
-      λ σ. refl,
-      (
-        λ σ. refl,
-        (
-          λ σ n. sym (append-nil (name n)),
-          (
-            λ σ n. refl,
-            (
-              λ σ a b. infix-left (σ .tensor) (printed σ a) (printed σ b),
-              (
-                λ σ a b. infix-left (σ .par) (printed σ a) (printed σ b),
-                (
-                  λ σ a b. infix-left (σ .with) (printed σ a) (printed σ b),
-                  (
-                    λ σ a b. infix-left (σ .plus) (printed σ a) (printed σ b),
-                    (λ σ a b. infix-left (σ .lolli) (printed σ a) (printed σ b), (λ σ a. refl, (λ σ a. refl, tt))),
-                  ),
-                ),
-              ),
-            ),
-          ),
-        ),
-      ),
-    ),
-  ),
-)
+signs-printed =
+    (λ σ. refl)
+    & (λ σ. refl)
+    & (λ σ. refl)
+    & (λ σ. refl)
+    & (λ σ n. sym (append-nil (name n)))
+    & (λ σ n. refl)
+    & (λ σ a b. infix-left (σ .tensor) (printed σ a) (printed σ b))
+    & (λ σ a b. infix-left (σ .par) (printed σ a) (printed σ b))
+    & (λ σ a b. infix-left (σ .with) (printed σ a) (printed σ b))
+    & (λ σ a b. infix-left (σ .plus) (printed σ a) (printed σ b))
+    & (λ σ a b. infix-left (σ .lolli) (printed σ a) (printed σ b))
+    & (λ σ a. refl)
+    & (λ σ a. refl)
+    & tt
 
 printed-at : (t : ℕ) (x : Sign) → At signs t x → Prints t x
 printed-at t x h = all-at Prints signs signs-printed t x h
 
 -- ---- the steps of the code, at each form of a tag
 
-module _ (s : List ℕ) (at : ℕ) (out : List ℕ) (to : ℕ) (style : Style) (pass : Pass) where
-  pub unit-printed : {r : Room} {last : List ℕ} → form-of (getD s at 0) ≡ Unit → Emitted pass out to (sign-text (signs-of style) (getD s at 0)) (at + 1) r last
-      → Printed s at out to style pass r last
+module _ (s : List ℕ) (p : Place) (out : List ℕ) (style : Style) (pass : Pass) where
+  abbrev tag : ℕ
+  tag = getD s (p .next) 0
+
+  -- a walk over a text from that place
+  abbrev Goes : List ℕ → ℕ → Place → List ℕ → Type 0
+  Goes text next r last = Emitted pass out (p .to) (p .fits) text next r last
+
+  pub unit-printed : {r : Place} {last : List ℕ} → form-of tag ≡ Unit → Goes (sign-text (signs-of style) tag) (p .next + 1) r last → Printed s p out style pass r last
   unit-printed e m =
       record {
-        text = λ f stands. let u = shaped s at f stands e in as-text m (sym (printed-at (getD s at 0) (unit f) (u .sign) (signs-of style))) (omega (arith, u .wide));
+        text = λ f stands. let u = shaped s (p .next) f stands e in as-text m (sym (printed-at tag (unit f) (u .sign) (signs-of style))) (omega (arith, u .wide));
       }
 
-  pub name-printed : {n : ℕ} {r : Room} {last : List ℕ} → form-of (getD s at 0) ≡ Named → n ≡ getD s (at + 1) 0 * 256 + getD s (at + 2) 0
-      → Emitted pass out to (name n ++ sign-text (signs-of style) (getD s at 0)) (at + 3) r last → Printed s at out to style pass r last
-  name-printed {n} e q m =
+  pub name-printed : {n : ℕ} {q r : Place} {mid last : List ℕ} → form-of tag ≡ Named → n ≡ getD s (p .next + 1) 0 * 256 + getD s (p .next + 2) 0
+      → Goes (name n) (p .next + 3) q mid → Emitted pass mid (q .to) (q .fits) (sign-text (signs-of style) tag) (q .next) r last → Printed s p out style pass r last
+  name-printed {n} e g m m₂ =
       record {
         text =
             λ f stands.
-            let u = shaped s at f stands e in
+            let u = shaped s (p .next) f stands e in
             let same : n ≡ u .name = omega (arith, u .high, u .low) in
-            let made : printed (signs-of style) f ≡ name n ++ sign-text (signs-of style) (getD s at 0) =
-            ap (printed (signs-of style)) (u .same) ∙ printed-at (getD s at 0) (named (u .make)) (u .sign) (signs-of style) (u .name) ∙ rw same
+            let made : printed (signs-of style) f ≡ name n ++ sign-text (signs-of style) tag =
+            ap (printed (signs-of style)) (u .same) ∙ printed-at tag (named (u .make)) (u .sign) (signs-of style) (u .name) ∙ rw same
             in
-            as-text m (sym made) (omega (arith, u .wide));
+            as-text (then-emitted m m₂) (sym made) (omega (arith, u .wide, read-on m));
       }
 
-  module _ (e : form-of (getD s at 0) ≡ Unary) {r₁ : Room} {mid : List ℕ} (sign : Emitted pass out to (sign-text (signs-of style) (getD s at 0)) (at + 1) r₁ mid) where
-    part-text : (f : Formula) (u : UnaryAt s at f) → printed (signs-of style) f ≡ sign-text (signs-of style) (getD s at 0) ++ printed (signs-of style) (u .part)
-    part-text f u = ap (printed (signs-of style)) (u .same) ∙ printed-at (getD s at 0) (unary (u .make)) (u .sign) (signs-of style) (u .part)
+  module _ (e : form-of tag ≡ Unary) {q : Place} {mid : List ℕ} (sign : Goes (sign-text (signs-of style) tag) (p .next + 1) q mid) where
+    part-stands : (f : Formula) (u : UnaryAt s (p .next) f) → Stands s (q .next) (u .part)
+    part-stands f u = subst (λ (k : ℕ). Stands s k (u .part)) (sym (read-on sign)) (u .part-stands)
 
-    pub unary-stopped : r₁ ≡ Short → Printed s at out to style pass Short mid
-    unary-stopped q =
+    pub unary-ready : Ready s (p .next) → Ready s (q .next)
+    unary-ready ready =
+        let u = shaped s (p .next) (ready .formula) (ready .stands) e in record { formula = u .part; stands = part-stands (ready .formula) u }
+
+    pub unary-printed : {r : Place} {last : List ℕ} → Printed s q mid style pass r last → Printed s p out style pass r last
+    unary-printed part =
         record {
           text =
               λ f stands.
-              let u = shaped s at f stands e in
-              stopped (printed (signs-of style) f) (at + size f) sign q
-              (omega (arith, ap length (part-text f u), length-append (sign-text (signs-of style) (getD s at 0)) (printed (signs-of style) (u .part))));
+              let u = shaped s (p .next) f stands e in
+              let made : printed (signs-of style) f ≡ sign-text (signs-of style) tag ++ printed (signs-of style) (u .part) =
+              ap (printed (signs-of style)) (u .same) ∙ printed-at tag (unary (u .make)) (u .sign) (signs-of style) (u .part)
+              in
+              as-text (then-emitted sign (part .text (u .part) (part-stands f u))) (sym made) (omega (arith, u .wide, read-on sign));
         }
 
-    pub unary-ready : {next place : ℕ} → r₁ ≡ Left next place → Ready s at out to → Ready s next mid place
-    unary-ready q ready =
-        let u = shaped s at (ready .formula) (ready .stands) e in
-        let w = ended sign q in
-        record { formula = u .part; stands = subst (λ (k : ℕ). Stands s k (u .part)) (sym (w .read)) (u .part-stands); room = w .room }
+  -- two parts, one after the other
+  module _ (e : form-of tag ≡ Binary) {q₁ : Place} {o₁ : List ℕ} (bracket : Goes (40 ∷ []) (p .next + 1) q₁ o₁) where
+    first-stands : (f : Formula) (u : BinaryAt s (p .next) f) → Stands s (q₁ .next) (u .first)
+    first-stands f u = subst (λ (k : ℕ). Stands s k (u .first)) (sym (read-on bracket)) (u .first-stands)
 
-    pub unary-printed : {next place : ℕ} {r : Room} {last : List ℕ} → r₁ ≡ Left next place → Printed s next mid place style pass r last → Printed s at out to style pass r last
-    unary-printed q part =
-        record {
-          text =
-              λ f stands.
-              let u = shaped s at f stands e in
-              let w = ended sign q in
-              let more = part .text (u .part) (subst (λ (k : ℕ). Stands s k (u .part)) (sym (w .read)) (u .part-stands)) in
-              as-text (then-emitted sign q more) (sym (part-text f u)) (omega (arith, u .wide, w .read));
-        }
+    pub first-ready : Ready s (p .next) → Ready s (q₁ .next)
+    first-ready ready =
+        let u = shaped s (p .next) (ready .formula) (ready .stands) e in record { formula = u .first; stands = first-stands (ready .formula) u }
 
-  -- two parts: the text so far, part by part
-  module _ (e : form-of (getD s at 0) ≡ Binary) where
-    first-of : (f : Formula) → Stands s at f → List ℕ
-    first-of f stands = printed (signs-of style) (shaped s at f stands e .first)
+    module _ {q₂ q₃ : Place} {o₂ o₃ : List ℕ} (first : Printed s q₁ o₁ style pass q₂ o₂) (sign : Emitted pass o₂ (q₂ .to) (q₂ .fits) (sign-text (signs-of style) tag) (q₂ .next) q₃ o₃) where
+      second-place : (f : Formula) (u : BinaryAt s (p .next) f) → q₃ .next ≡ p .next + 1 + size (u .first)
+      second-place f u = omega (arith, read-on sign, read-on (first .text (u .first) (first-stands f u)), read-on bracket)
 
-    second-of : (f : Formula) → Stands s at f → List ℕ
-    second-of f stands = printed (signs-of style) (shaped s at f stands e .second)
+      second-stands : (f : Formula) (u : BinaryAt s (p .next) f) → Stands s (q₃ .next) (u .second)
+      second-stands f u = subst (λ (k : ℕ). Stands s k (u .second)) (sym (second-place f u)) (u .second-stands)
 
-    between : List ℕ
-    between = sign-text (signs-of style) (getD s at 0)
+      pub second-after : Ready s (p .next) → p .next < q₃ .next
+      second-after ready = let u = shaped s (p .next) (ready .formula) (ready .stands) e in omega (arith, second-place (ready .formula) u)
 
-    whole-text : (f : Formula) (stands : Stands s at f) → printed (signs-of style) f ≡ ((((40 ∷ []) ++ first-of f stands) ++ between) ++ second-of f stands) ++ (41 ∷ [])
-    unfolding first-of second-of between
-    whole-text f stands =
-        let u = shaped s at f stands e in ap (printed (signs-of style)) (u .same) ∙ printed-at (getD s at 0) (binary (u .make)) (u .sign) (signs-of style) (u .first) (u .second)
+      pub second-ready : Ready s (p .next) → Ready s (q₃ .next)
+      second-ready ready =
+          let u = shaped s (p .next) (ready .formula) (ready .stands) e in record { formula = u .second; stands = second-stands (ready .formula) u }
 
-    -- how long the text is, and its beginnings
-    wide : (f : Formula) (stands : Stands s at f) → length (printed (signs-of style) f) ≡ 1 + length (first-of f stands) + length between + length (second-of f stands) + 1
-    wide f stands = ap length (whole-text f stands) ∙ simp length-append (omega arith)
-
-    module _ {r₁ : Room} {o₁ : List ℕ} (bracket : Emitted pass out to (40 ∷ []) (at + 1) r₁ o₁) where
-      pub open-stopped : r₁ ≡ Short → Printed s at out to style pass Short o₁
-      open-stopped q = record { text = λ f stands. stopped (printed (signs-of style) f) (at + size f) bracket q (omega (arith, wide f stands)) }
-
-      module _ {n₁ t₁ : ℕ} (q₁ : r₁ ≡ Left n₁ t₁) where
-        first-stands : (f : Formula) (stands : Stands s at f) → Stands s n₁ (shaped s at f stands e .first)
-        first-stands f stands = let u = shaped s at f stands e in subst (λ (k : ℕ). Stands s k (u .first)) (sym (ended bracket q₁ .read)) (u .first-stands)
-
-        pub first-ready : Ready s at out to → Ready s n₁ o₁ t₁
-        first-ready ready =
-            record { formula = shaped s at (ready .formula) (ready .stands) e .first; stands = first-stands (ready .formula) (ready .stands); room = ended bracket q₁ .room }
-
-        module _ {r₂ : Room} {o₂ : List ℕ} (first : Printed s n₁ o₁ t₁ style pass r₂ o₂) where
-          up-to-first : (f : Formula) (stands : Stands s at f) → Emitted pass out to ((40 ∷ []) ++ first-of f stands) (n₁ + size (shaped s at f stands e .first)) r₂ o₂
-          unfolding first-of
-          up-to-first f stands = then-emitted bracket q₁ (first .text (shaped s at f stands e .first) (first-stands f stands))
-
-          pub first-stopped : r₂ ≡ Short → Printed s at out to style pass Short o₂
-          first-stopped q = record { text = λ f stands. stopped (printed (signs-of style) f) (at + size f) (up-to-first f stands) q (omega (arith, wide f stands)) }
-
-          module _ {n₂ t₂ : ℕ} (q₂ : r₂ ≡ Left n₂ t₂) where
-            second-place : (f : Formula) (stands : Stands s at f) → n₂ ≡ at + 1 + size (shaped s at f stands e .first)
-            second-place f stands = omega (arith, ended (up-to-first f stands) q₂ .read, ended bracket q₁ .read)
-
-            second-stands : (f : Formula) (stands : Stands s at f) → Stands s n₂ (shaped s at f stands e .second)
-            second-stands f stands = let u = shaped s at f stands e in subst (λ (k : ℕ). Stands s k (u .second)) (sym (second-place f stands)) (u .second-stands)
-
-            pub second-after : Ready s at out to → at < n₂
-            second-after ready = omega (arith, second-place (ready .formula) (ready .stands))
-
-            pub between-room : Ready s at out to → t₂ ≤ length o₂
-            between-room ready = ended (up-to-first (ready .formula) (ready .stands)) q₂ .room
-
-            module _ {r₃ : Room} {o₃ : List ℕ} (sign : Emitted pass o₂ t₂ (sign-text (signs-of style) (getD s at 0)) n₂ r₃ o₃) where
-              up-to-sign : (f : Formula) (stands : Stands s at f) → Emitted pass out to (((40 ∷ []) ++ first-of f stands) ++ between) n₂ r₃ o₃
-              unfolding between
-              up-to-sign f stands = then-emitted (up-to-first f stands) q₂ sign
-
-              pub sign-stopped : r₃ ≡ Short → Printed s at out to style pass Short o₃
-              sign-stopped q =
-                  record {
-                    text = λ f stands. stopped (printed (signs-of style) f) (at + size f) (up-to-sign f stands) q (omega (arith, wide f stands, length-append ((40 ∷ []) ++ first-of f stands) between));
-                  }
-
-              module _ {n₃ t₃ : ℕ} (q₃ : r₃ ≡ Left n₃ t₃) where
-                pub second-ready : Ready s at out to → Ready s n₂ o₃ t₃
-                second-ready ready =
-                    record {
-                      formula = shaped s at (ready .formula) (ready .stands) e .second;
-                      stands = second-stands (ready .formula) (ready .stands);
-                      room = ended sign q₃ .room;
-                    }
-
-                module _ {r₄ : Room} {o₄ : List ℕ} (second : Printed s n₂ o₃ t₃ style pass r₄ o₄) where
-                  up-to-second : (f : Formula) (stands : Stands s at f)
-                      → Emitted pass out to ((((40 ∷ []) ++ first-of f stands) ++ between) ++ second-of f stands) (n₂ + size (shaped s at f stands e .second)) r₄ o₄
-                  unfolding second-of
-                  up-to-second f stands = then-emitted (up-to-sign f stands) q₃ (second .text (shaped s at f stands e .second) (second-stands f stands))
-
-                  pub second-stopped : r₄ ≡ Short → Printed s at out to style pass Short o₄
-                  second-stopped q =
-                      record {
-                        text =
-                            λ f stands.
-                            stopped (printed (signs-of style) f) (at + size f) (up-to-second f stands) q
-                            (omega (
-                              arith,
-                              wide f stands,
-                              length-append ((40 ∷ []) ++ first-of f stands) between,
-                              length-append (((40 ∷ []) ++ first-of f stands) ++ between) (second-of f stands),
-                            ));
-                      }
-
-                  module _ {n₄ t₄ : ℕ} (q₄ : r₄ ≡ Left n₄ t₄) where
-                    pub close-room : Ready s at out to → t₄ ≤ length o₄
-                    close-room ready = ended (up-to-second (ready .formula) (ready .stands)) q₄ .room
-
-                    pub binary-printed : {r : Room} {last : List ℕ} → Emitted pass o₄ t₄ (41 ∷ []) n₄ r last → Printed s at out to style pass r last
-                    binary-printed close =
-                        record {
-                          text =
-                              λ f stands.
-                              as-text (then-emitted (up-to-second f stands) q₄ close) (sym (whole-text f stands))
-                              (omega (arith, shaped s at f stands e .wide, ended (up-to-second f stands) q₄ .read, second-place f stands));
-                        }
+      pub binary-printed : {q₄ r : Place} {o₄ last : List ℕ} → Printed s q₃ o₃ style pass q₄ o₄ → Emitted pass o₄ (q₄ .to) (q₄ .fits) (41 ∷ []) (q₄ .next) r last → Printed s p out style pass r last
+      binary-printed second close =
+          record {
+            text =
+                λ f stands.
+                let u = shaped s (p .next) f stands e in
+                let m₂ = second .text (u .second) (second-stands f u) in
+                let made : printed (signs-of style) f
+                ≡ ((((40 ∷ []) ++ printed (signs-of style) (u .first)) ++ sign-text (signs-of style) tag) ++ printed (signs-of style) (u .second)) ++ (41 ∷ []) =
+                ap (printed (signs-of style)) (u .same) ∙ printed-at tag (binary (u .make)) (u .sign) (signs-of style) (u .first) (u .second)
+                in
+                as-text (then-emitted (then-emitted (then-emitted (then-emitted bracket (first .text (u .first) (first-stands f u))) sign) m₂) close) (sym made)
+                (omega (arith, u .wide, read-on m₂, second-place f u));
+          }
 
 -- ---- what the code asks of the slice it reads
 
-module _ (s : List ℕ) (at : ℕ) (out : List ℕ) (to : ℕ) (ready : Ready s at out to) where
+module _ (s : List ℕ) (at : ℕ) (ready : Ready s at) where
   pub inside : at < length s
   inside = starts-inside s at (ready .formula) (ready .stands)
 
@@ -392,28 +293,30 @@ module _ (s : List ℕ) (at : ℕ) (out : List ℕ) (to : ℕ) (ready : Ready s 
   pub name-inside : form-of (getD s at 0) ≡ Named → at + 3 ≤ length s
   name-inside e = shaped s at (ready .formula) (ready .stands) e .inside
 
+  pub tag-known : getD s at 0 < 13
+  tag-known = tag-below s at (ready .formula) (ready .stands)
+
 -- ---- the call: the whole slice printed, once to count and once to write
 
 module _ {s : List ℕ} {n : ℕ} (w : Whole s n) where
-  pub one-ready : (out : List ℕ) → Ready s 0 out 0
-  one-ready out = record { formula = w .formula; stands = whole-stands w; room = omega arith }
+  pub one-ready : Ready s 0
+  one-ready = record { formula = w .formula; stands = whole-stands w }
 
-  module _ (out : List ℕ) (style : Style) where
-    pub count-short : {mid : List ℕ} {r : Room} → Printed s 0 out 0 style Count r mid → r ≡ Short → Writes (printed (signs-of style)) s out (Refused OutputShort) mid
-    count-short {mid} {r} p q = go (p .text (w .formula) (whole-stands w))
+  module _ (out : List ℕ) (style : Style) {q : Place} {mid : List ℕ} (counted : Printed s (place 0 0) out style Count q mid) where
+    pub count-short : q .fits ≡ false → Writes (printed (signs-of style)) s out (Refused OutputShort) mid
+    count-short g = go (counted .text (w .formula) (whole-stands w))
       where
-        go : Emitted Count out 0 (printed (signs-of style) (w .formula)) (0 + size (w .formula)) r mid → Writes (printed (signs-of style)) s out (Refused OutputShort) mid
-        go (fits h e l) = let z : _≡_ {A = ℕ} 0 1 = cc in absurd (omega arith)
-        go (short h e l) = rw (l refl) (writes-short (printed (signs-of style)) s out w (omega arith))
+        go : Emitted Count out 0 true (printed (signs-of style) (w .formula)) (0 + size (w .formula)) q mid → Writes (printed (signs-of style)) s out (Refused OutputShort) mid
+        go (went f h e l) = absurd (false≢true (sym g ∙ ap (λ (x : Place). x .fits) e))
+        go (stopped h e f k l) = rw (l refl) (writes-short (printed (signs-of style)) s out w (omega (arith, h refl)))
 
-    pub print-done : {mid last : List ℕ} {r r₂ : Room} {next to : ℕ} → Printed s 0 out 0 style Count r mid → r ≡ Left next to → Printed s 0 mid 0 style Write r₂ last
-        → Writes (printed (signs-of style)) s out (Bytes to) last
+    pub print-done : {r : Place} {last : List ℕ} → q .fits ≡ true → Printed s (place 0 0) mid style Write r last → Writes (printed (signs-of style)) s out (Bytes (q .to)) last
     unfolding laid
-    print-done {mid} {last} {r} {r₂} {next} {to} p q p₂ =
-        let counted = ended (p .text (w .formula) (whole-stands w)) q in go counted (p₂ .text (w .formula) (whole-stands w))
+    print-done {r} {last} g p = go (counted .text (w .formula) (whole-stands w)) (p .text (w .formula) (whole-stands w))
       where
-        go : Ended Count out 0 (printed (signs-of style) (w .formula)) (0 + size (w .formula)) mid next to
-            → Emitted Write mid 0 (printed (signs-of style) (w .formula)) (0 + size (w .formula)) r₂ last → Writes (printed (signs-of style)) s out (Bytes to) last
-        go c (fits h e l) =
-            writes-bytes (printed (signs-of style)) s out w (omega (arith, c .same)) (omega (arith, c .wrote)) (l ∙ ap (λ (o : List ℕ). sets o 0 (printed (signs-of style) (w .formula))) (c .left))
-        go c (short h e l) = absurd (omega (arith, c .room, c .wrote))
+        go : Emitted Count out 0 true (printed (signs-of style) (w .formula)) (0 + size (w .formula)) q mid
+            → Emitted Write mid 0 true (printed (signs-of style) (w .formula)) (0 + size (w .formula)) r last → Writes (printed (signs-of style)) s out (Bytes (q .to)) last
+        go (went f h e l) (went f₂ h₂ e₂ l₂) =
+            writes-bytes (printed (signs-of style)) s out w (omega arith) (omega (arith, ap (λ (x : Place). x .to) e)) (l₂ ∙ ap (λ (o : List ℕ). sets o 0 (printed (signs-of style) (w .formula))) l)
+        go (went f h e l) (stopped h₂ e₂ f₂ k₂ l₂) = absurd (omega (arith, h₂ refl, ap length l))
+        go (stopped h e f k l) m = absurd (false≢true (sym f ∙ g))

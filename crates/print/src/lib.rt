@@ -1,7 +1,7 @@
 // A formula's text (document 01): `pretty` and `pretty_ascii` of formula.rs, on one formula in bytes.
 //
 // The text is walked twice, once to count and once to write, so that the output buffer stays as it is where it is too short. The place of writing never passes the buffer's end, so nothing overflows,
-// however long the text is.
+// however long the text is: a walk whose text does not fit goes on reading, and writes no more.
 ghost use mathlib.Core.Path.{_≡_};
 ghost use mathlib.Core.List.{_∷_, [], _++_};
 ghost use Prim.Native.Nat.{_+_, _*_, _≤_, _<_};
@@ -9,7 +9,7 @@ ghost use lib.ListN.{length};
 ghost use lib.Seq.{sets};
 ghost use Rattle.logic.specs.Text as as-text;
 ghost use Rattle.formula.specs.Calls.{Writes};
-ghost use Rattle.print.specs.Printing.{signs-of, sign-text, plain-text, Emitted, Ready, Printed};
+ghost use Rattle.print.specs.Printing.{signs-of, sign-row, sign-text, Emitted, Ready, Printed};
 use formula::Form;
 use formula::Read;
 use formula::Refusal;
@@ -28,24 +28,47 @@ pub enum Pass {
     Write,
 }
 
-// Where reading and writing go on, or that the text is longer than the output buffer.
-pub enum Room {
-    Left { next: usize, to: usize },
-    Short,
+// Where reading and writing go on, and whether the text fits the output buffer so far.
+pub struct Place {
+    pub next: usize,
+    pub to: usize,
+    pub fits: bool,
 }
 
-// The signs in UTF-8, those between two parts with their spaces.
-const TENSOR: [u8; 5] = *b" \xE2\x8A\x97 ";
+// What stands for each tag, in UTF-8, one behind the other: the signs of the Unicode printing and then those of the ASCII printing, those between two parts with their spaces. An atom's tag has none.
+const SIGNS: [u8; 63] =
+    *b"1\xE2\x8A\xA5\xE2\x8A\xA40\xE2\x8A\xA5 \xE2\x8A\x97  \xE2\x85\x8B  &  \xE2\x8A\x95  \xE2\x8A\xB8 !?1bottop0^ *  |  &  +  -o !?";
 
-const PAR: [u8; 5] = *b" \xE2\x85\x8B ";
-
-const LOLLI: [u8; 5] = *b" \xE2\x8A\xB8 ";
-
-const PLUS: [u8; 5] = *b" \xE2\x8A\x95 ";
-
-const BOTTOM: [u8; 3] = *b"\xE2\x8A\xA5";
-
-const TOP: [u8; 3] = *b"\xE2\x8A\xA4";
+// Where each of them starts, and where the last ends.
+const STARTS: [usize; 27] = [
+    0,
+    1,
+    4,
+    7,
+    8,
+    8,
+    11,
+    16,
+    21,
+    24,
+    29,
+    34,
+    35,
+    36,
+    37,
+    40,
+    43,
+    44,
+    44,
+    45,
+    48,
+    51,
+    54,
+    57,
+    61,
+    62,
+    63,
+];
 
 // Copies a text to its place.
 fn copy(out: &mut [u8], to: usize, text: &[u8])
@@ -59,180 +82,119 @@ fn copy(out: &mut [u8], to: usize, text: &[u8])
     }
 }
 
-// Passes over a text, which a walk that writes copies to `to`. Reading goes on at `next`.
-fn emit(out: &mut [u8], to: usize, text: &[u8], pass: Pass, next: usize) -> Room
-    requires { ⌜ to ≤ length (now out) ⌝ }
-    ensures { λ r. ⌜ Emitted pass (now (out .entry)) to (now (text .entry)) next r (now (out .exit)) ⌝ }
+// Passes over a text, which a walk that writes copies to its place. Reading goes on where it was.
+fn emit(out: &mut [u8], p: Place, text: &[u8], pass: Pass) -> Place
+    ensures { λ r. ⌜ Emitted pass (now (out .entry)) (p .to) (p .fits) (now (text .entry)) (p .next) r (now (out .exit)) ⌝ }
 {
+    let next = p.next;
+    let to = p.to;
+    if !p.fits {
+        return p;
+    }
+    if out.len() < to {
+        return Place {
+            next,
+            to,
+            fits: false,
+        };
+    }
     if out.len() - to < text.len() {
-        return Room::Short;
+        return Place {
+            next,
+            to,
+            fits: false,
+        };
     }
     if let Pass::Write = pass {
         copy(out, to, text);
-        return Room::Left {
+        return Place {
             next,
             to: to + text.len(),
+            fits: true,
         };
     }
-    Room::Left {
+    Place {
         next,
         to: to + text.len(),
+        fits: true,
     }
 }
 
-// The units and signs that both printings write alike. An atom's tag has none.
-fn plain_sign(out: &mut [u8], to: usize, tag: u8, pass: Pass, next: usize) -> Room
-    requires { ⌜ to ≤ length (now out) ⌝ }
-    ensures { λ r. ⌜ Emitted pass (now (out .entry)) to (plain-text tag) next r (now (out .exit)) ⌝ }
+// The row of a printing's sign for a tag.
+fn row(style: Style, tag: u8) -> usize
+    requires { ⌜ tag < 13 ⌝ }
+    ensures { λ r. ⌜ (r ≡ sign-row style tag) × (r < 26) ⌝ }
 {
-    match tag {
-        0 => emit(out, to, b"1", pass, next),
-        3 => emit(out, to, b"0", pass, next),
-        8 => emit(out, to, b" & ", pass, next),
-        11 => emit(out, to, b"!", pass, next),
-        12 => emit(out, to, b"?", pass, next),
-        _ => Room::Left { next, to },
-    }
-}
-
-fn unicode_sign(out: &mut [u8], to: usize, tag: u8, pass: Pass, next: usize) -> Room
-    requires { ⌜ to ≤ length (now out) ⌝ }
-    ensures { λ r. ⌜ Emitted pass (now (out .entry)) to (sign-text as-text.unicode tag) next r (now (out .exit)) ⌝ }
-{
-    match tag {
-        1 => emit(out, to, &BOTTOM, pass, next),
-        2 => emit(out, to, &TOP, pass, next),
-        5 => emit(out, to, &BOTTOM, pass, next),
-        6 => emit(out, to, &TENSOR, pass, next),
-        7 => emit(out, to, &PAR, pass, next),
-        9 => emit(out, to, &PLUS, pass, next),
-        10 => emit(out, to, &LOLLI, pass, next),
-        _ => plain_sign(out, to, tag, pass, next),
-    }
-}
-
-fn ascii_sign(out: &mut [u8], to: usize, tag: u8, pass: Pass, next: usize) -> Room
-    requires { ⌜ to ≤ length (now out) ⌝ }
-    ensures { λ r. ⌜ Emitted pass (now (out .entry)) to (sign-text as-text.ascii tag) next r (now (out .exit)) ⌝ }
-{
-    match tag {
-        1 => emit(out, to, b"bot", pass, next),
-        2 => emit(out, to, b"top", pass, next),
-        5 => emit(out, to, b"^", pass, next),
-        6 => emit(out, to, b" * ", pass, next),
-        7 => emit(out, to, b" | ", pass, next),
-        9 => emit(out, to, b" + ", pass, next),
-        10 => emit(out, to, b" -o ", pass, next),
-        _ => plain_sign(out, to, tag, pass, next),
+    match style {
+        Style::Unicode => tag as usize,
+        Style::Ascii => 13 + (tag as usize),
     }
 }
 
 // What stands for a tag in the text, without its parts.
-fn sign(out: &mut [u8], to: usize, tag: u8, style: Style, pass: Pass, next: usize) -> Room
-    requires { ⌜ to ≤ length (now out) ⌝ }
-    ensures { λ r. ⌜ Emitted pass (now (out .entry)) to (sign-text (signs-of style) tag) next r (now (out .exit)) ⌝ }
+fn sign(out: &mut [u8], p: Place, tag: u8, style: Style, pass: Pass) -> Place
+    requires { ⌜ tag < 13 ⌝ }
+    ensures { λ r. ⌜ Emitted pass (now (out .entry)) (p .to) (p .fits) (sign-text (signs-of style) tag) (p .next) r (now (out .exit)) ⌝ }
 {
-    match style {
-        Style::Unicode => unicode_sign(out, to, tag, pass, next),
-        Style::Ascii => ascii_sign(out, to, tag, pass, next),
-    }
+    let k = row(style, tag);
+    let from = STARTS[k];
+    let end = STARTS[k + 1];
+    let signs = SIGNS;
+    emit(out, p, &signs[from..end], pass)
 }
 
-// A number in decimal, without leading zeros.
-fn number(out: &mut [u8], to: usize, n: usize, pass: Pass, next: usize) -> Room
-    requires { ⌜ to ≤ length (now out) ⌝ }
-    ensures { λ r. ⌜ Emitted pass (now (out .entry)) to (as-text.digits n) next r (now (out .exit)) ⌝ }
+// The Rust atom `a17`: its number in decimal, without leading zeros.
+fn name(out: &mut [u8], p: Place, n: usize, pass: Pass) -> Place
+    ensures { λ r. ⌜ Emitted pass (now (out .entry)) (p .to) (p .fits) (as-text.name n) (p .next) r (now (out .exit)) ⌝ }
 {
-    let digit = [48 + (n % 10) as u8];
+    let digit = 48 + (n % 10) as u8;
     if n < 10 {
-        return emit(out, to, &digit, pass, next);
+        let shortest = [97, digit];
+        return emit(out, p, &shortest, pass);
     }
-    let Room::Left { next: _, to: last } = number(out, to, n / 10, pass, next) else {
-        return Room::Short;
-    };
-    emit(out, last, &digit, pass, next)
+    let before = name(out, p, n / 10, pass);
+    let last = [digit];
+    emit(out, before, &last, pass)
 }
 
-// The Rust atom `a17`.
-fn name(out: &mut [u8], to: usize, n: usize, pass: Pass, next: usize) -> Room
-    requires { ⌜ to ≤ length (now out) ⌝ }
-    ensures { λ r. ⌜ Emitted pass (now (out .entry)) to (as-text.name n) next r (now (out .exit)) ⌝ }
+// The text of the formula where reading goes on.
+fn print(s: &[u8], out: &mut [u8], p: Place, style: Style, pass: Pass) -> Place
+    requires { ⌜ Ready (now s) (p .next) ⌝ }
+    ensures { λ r. ⌜ Printed (now (s .entry)) p (now (out .entry)) style pass r (now (out .exit)) ⌝ }
 {
-    let Room::Left {
-        next: _,
-        to: digits,
-    } = emit(out, to, b"a", pass, next)
-    else {
-        return Room::Short;
-    };
-    number(out, digits, n, pass, next)
-}
-
-// A name with its tag's sign behind it: none, or that of negation.
-fn atom(out: &mut [u8], to: usize, n: usize, tag: u8, style: Style, pass: Pass, next: usize) -> Room
-    requires { ⌜ to ≤ length (now out) ⌝ }
-    ensures { λ r. ⌜ Emitted pass (now (out .entry)) to (as-text.name n ++ sign-text (signs-of style) tag) next r (now (out .exit)) ⌝ }
-{
-    let Room::Left { next: _, to: end } = name(out, to, n, pass, next) else {
-        return Room::Short;
-    };
-    sign(out, end, tag, style, pass, next)
-}
-
-// The text of the formula at `at`.
-fn print(s: &[u8], at: usize, out: &mut [u8], to: usize, style: Style, pass: Pass) -> Room
-    requires { ⌜ Ready (now s) at (now out) to ⌝ }
-    ensures { λ r. ⌜ Printed (now (s .entry)) at (now (out .entry)) to style pass r (now (out .exit)) ⌝ }
-{
+    let at = p.next;
+    let to = p.to;
+    let fits = p.fits;
     let tag = s[at];
+    let inside = Place {
+        next: at + 1,
+        to,
+        fits,
+    };
     match form_of(tag) {
-        Form::Unit => sign(out, to, tag, style, pass, at + 1),
+        Form::Unit => sign(out, inside, tag, style, pass),
         Form::Named => {
             let n = (s[at + 1] as usize) * 256 + (s[at + 2] as usize);
-            atom(out, to, n, tag, style, pass, at + 3)
+            let behind = Place {
+                next: at + 3,
+                to,
+                fits,
+            };
+            let named = name(out, behind, n, pass);
+            sign(out, named, tag, style, pass)
         }
         Form::Unary => {
-            let Room::Left {
-                next: part,
-                to: text,
-            } = sign(out, to, tag, style, pass, at + 1)
-            else {
-                return Room::Short;
-            };
-            print(s, part, out, text, style, pass)
+            let signed = sign(out, inside, tag, style, pass);
+            print(s, out, signed, style, pass)
         }
         Form::Binary => {
-            let Room::Left {
-                next: first,
-                to: open,
-            } = emit(out, to, b"(", pass, at + 1)
-            else {
-                return Room::Short;
-            };
-            let Room::Left {
-                next: second,
-                to: left,
-            } = print(s, first, out, open, style, pass)
-            else {
-                return Room::Short;
-            };
-            let Room::Left {
-                next: _,
-                to: between,
-            } = sign(out, left, tag, style, pass, second)
-            else {
-                return Room::Short;
-            };
-            let Room::Left {
-                next: end,
-                to: right,
-            } = print(s, second, out, between, style, pass)
-            else {
-                return Room::Short;
-            };
-            emit(out, right, b")", pass, end)
+            let open = emit(out, inside, b"(", pass);
+            let first = print(s, out, open, style, pass);
+            let between = sign(out, first, tag, style, pass);
+            let second = print(s, out, between, style, pass);
+            emit(out, second, b")", pass)
         }
-        Form::Unknown => Room::Short,
+        Form::Unknown => p,
     }
 }
 
@@ -243,11 +205,17 @@ fn print_one(s: &[u8], out: &mut [u8], style: Style) -> Written
     match read_one(s) {
         Read::Refused(k) => Written::Refused(k),
         Read::Next(_) => {
-            let Room::Left { next: _, to: n } = print(s, 0, out, 0, style, Pass::Count) else {
-                return Written::Refused(Refusal::OutputShort);
+            let start = Place {
+                next: 0,
+                to: 0,
+                fits: true,
             };
-            print(s, 0, out, 0, style, Pass::Write);
-            Written::Bytes(n)
+            let end = print(s, out, start, style, Pass::Count);
+            if end.fits {
+                print(s, out, start, style, Pass::Write);
+                return Written::Bytes(end.to);
+            }
+            Written::Refused(Refusal::OutputShort)
         }
     }
 }

@@ -132,32 +132,41 @@ fn high_row(
 }
 
 // Bytes, the room, and the answer. Where a formula is wanted: no byte 3, tag 4, height 5, cut number 3; leftover bytes 3; then 10.
+fn lone_rows(tally: Tally) -> Tally {
+    let mut t = tally;
+    t = t.with(row(b"", ROOM, 3));
+    t = t.with(row(b"\x00", 1, 0));
+    t = t.with(row(b"\x00", 0, 10));
+    t = t.with(row(b"\x00\x0D", ROOM, 3));
+    t = t.with(row(b"\x00\x00", 0, 3));
+    t.with(row(b"\x0D", 0, 4))
+}
+
+// The same in a formula's parts.
+fn part_rows(tally: Tally) -> Tally {
+    let mut t = tally;
+    t = t.with(row(b"\x04\x00", ROOM, 3));
+    t = t.with(row(b"\x06\x00", ROOM, 3));
+    t = t.with(row(b"\x06\x0D", ROOM, 4));
+    t = t.with(row(b"\x06\x00\x0D", ROOM, 4));
+    t.with(row(b"\x06\x04\x00", ROOM, 3))
+}
+
 fn short_rows() -> Tally {
-    Tally::new()
-        .with(row(b"", ROOM, 3))
-        .with(row(b"\x00", 1, 0))
-        .with(row(b"\x00", 0, 10))
-        .with(row(b"\x00\x0D", ROOM, 3))
-        .with(row(b"\x00\x00", 0, 3))
-        .with(row(b"\x0D", 0, 4))
-        .with(row(b"\x04\x00", ROOM, 3))
-        .with(row(b"\x06\x00", ROOM, 3))
-        .with(row(b"\x06\x0D", ROOM, 4))
-        .with(row(b"\x06\x00\x0D", ROOM, 4))
-        .with(row(b"\x06\x04\x00", ROOM, 3))
+    part_rows(lone_rows(Tally::new()))
 }
 
 // The same at the highest level, and past it, where the tag is told before the height, and that before a cut number.
 fn high_rows() -> Tally {
-    Tally::new()
-        .with(high_row(63, 0, 0, 64, 64, 0))
-        .with(high_row(63, 0, 0, 64, 63, 10))
-        .with(high_row(64, 0, 0, 65, 65, 5))
-        .with(high_row(64, 0, 0, 64, ROOM, 3))
-        .with(high_row(64, 13, 0, 65, ROOM, 4))
-        .with(high_row(64, 4, 0, 66, ROOM, 5))
-        .with(high_row(63, 4, 0, 65, ROOM, 3))
-        .with(high_row(63, 0, 13, 65, ROOM, 3))
+    let mut t = Tally::new();
+    t = t.with(high_row(63, 0, 0, 64, 64, 0));
+    t = t.with(high_row(63, 0, 0, 64, 63, 10));
+    t = t.with(high_row(64, 0, 0, 65, 65, 5));
+    t = t.with(high_row(64, 0, 0, 64, ROOM, 3));
+    t = t.with(high_row(64, 13, 0, 65, ROOM, 4));
+    t = t.with(high_row(64, 4, 0, 66, ROOM, 5));
+    t = t.with(high_row(63, 4, 0, 65, ROOM, 3));
+    t.with(high_row(63, 0, 13, 65, ROOM, 3))
 }
 
 fn main() {

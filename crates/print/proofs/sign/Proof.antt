@@ -1,35 +1,50 @@
--- `print::sign` meets its contract. Assumes nothing.
-use mathlib.Core.Path.{refl, sym, ap}
-use Rattle.print.specs.Printing.{signs-of, sign-text}
-use Rattle.print.specs.PrintingLaws.{as-text}
-use Rattle.print.specs.declared.Style.{Style}
+-- `print::sign` meets its contract: the code's table is that of the printing. Assumes nothing.
+use mathlib.Core.Path.{refl}
+use native.Mathlib.Omega.{arith}
+use Rattle.print.specs.PrintingLaws.{as-text, row-at}
 use borrow.Author.Needs.{needs}
 use Rattle.print.proofs.sign.Statement.{statement}
 use Rattle.print.proofs.sign.Tie as tie
+use Rattle.print.proofs.sign.Reads as reads
+use Rattle.print.proofs.sign.Lts as lts
+use Rattle.print.proofs.emit.Reads as emit-reads
+use Rattle.print.proofs.row.Reads as row-reads
 
-enum-told : tie.Need-enum-told
-enum-told c = search needs
+row-requires : tie.Need-row-requires
+row-requires c κs = c .before .pre
 
-unicode-sign-requires : tie.Need-unicode-sign-requires
-unicode-sign-requires c κs = search needs
+mul-from : tie.Need-mul-from
+mul-from c = omega (arith, c .row .ensures .1)
 
-enum-told-2 : tie.Need-enum-told-2
-enum-told-2 c = search needs
+array-read-from : tie.Need-array-read-from
+array-read-from c = omega (arith, c .row .ensures .1)
 
-ascii-sign-requires : tie.Need-ascii-sign-requires
-ascii-sign-requires c κs = search needs
+add-end : tie.Need-add-end
+add-end c = omega (arith, c .row .ensures .1)
+
+mul-end : tie.Need-mul-end
+mul-end c = omega (arith, c .row .ensures .1)
+
+array-read-end : tie.Need-array-read-end
+array-read-end c = omega (arith, c .row .ensures .1)
+
+sub-emit : tie.Need-sub-emit
+sub-emit c = (row-at (c .before .before .before .args .style) _ (c .before .row .ensures .0) (c .before .before .before .pre)) .in-order
+
+part-emit-start : tie.Need-part-emit-start
+part-emit-start c = omega (arith, (row-at (c .before .before .before .before .args .style) _ (c .before .before .row .ensures .0) (c .before .before .before .before .pre)) .in-order, (row-at (c .before .before .before .before .args .style) _ (c .before .before .row .ensures .0) (c .before .before .before .before .pre)) .inside-all)
+
+part-emit-end : tie.Need-part-emit-end
+part-emit-end c = (row-at (c .before .before .before .before .args .style) _ (c .before .before .row .ensures .0) (c .before .before .before .before .pre)) .inside-all
+
+emit-requires : tie.Need-emit-requires
+emit-requires c κs = search needs
 
 same-length : tie.Need-same-length
 same-length c = search needs
 
 returns : tie.Need-returns
-returns c = as-text (c .before .before .unicode-sign .ensures) (sym (ap (λ (x : Style). sign-text (signs-of x) (c .before .before .before .before .before .before .before .args .tag)) (c .before .before .before .before .enum-told .given .1))) refl
-
-same-length-2 : tie.Need-same-length-2
-same-length-2 c = search needs
-
-returns-2 : tie.Need-returns-2
-returns-2 c = as-text (c .before .before .ascii-sign .ensures) (sym (ap (λ (x : Style). sign-text (signs-of x) (c .before .before .before .before .before .before .before .args .tag)) (c .before .before .before .before .enum-told2 .given .1))) refl
+returns c = as-text (c .before .before .emit .ensures) ((row-at (c .before .before .before .before .before .before .before .before .args .style) _ (c .before .before .before .before .before .before .row .ensures .0) (c .before .before .before .before .before .before .before .before .pre)) .cut) refl
 
 pub sign-spec : {M : Type 1} → statement M
-sign-spec = tie.close (tie.spec enum-told unicode-sign-requires enum-told-2 ascii-sign-requires same-length returns same-length-2 returns-2)
+sign-spec = tie.close (tie.spec row-requires mul-from array-read-from add-end mul-end array-read-end sub-emit part-emit-start part-emit-end emit-requires same-length returns)

@@ -1,5 +1,5 @@
 use mathlib.Core.Path.{refl}
-use Rattle.held.specs.Signs.{dualOf}
+use Rattle.logic.specs.Parts.{negated-tag}
 use borrow.Author.Needs.{needs}
 use Rattle.expand.proofs.negations.dual.Statement.{statement}
 use Rattle.expand.proofs.negations.dual.Tie as tie
@@ -11,7 +11,7 @@ array-read-result : tie.Need-array-read-result
 array-read-result c = search needs
 
 returns : tie.Need-returns
-unfolding dualOf
+unfolding negated-tag
 returns c = refl
 
 pub dual-spec : {M : Type 1} → statement M

@@ -1,5 +1,5 @@
 -- `held::turn::dual` meets its contract. Assumes nothing.
-use Rattle.held.specs.Signs.{dualOf}
+use Rattle.logic.specs.Parts.{negated-tag}
 use mathlib.Core.Path.{refl}
 use borrow.Author.Needs.{needs}
 use Rattle.held.proofs.turn.dual.Statement.{statement}
@@ -12,7 +12,7 @@ array-read-result : tie.Need-array-read-result
 array-read-result c = search needs
 
 returns : tie.Need-returns
-unfolding dualOf
+unfolding negated-tag
 returns c = refl
 
 pub dual-spec : {M : Type 1} → statement M

@@ -18,6 +18,9 @@ loop-holds c = search needs
 mul-put-failure : tie.Need-mul-put-failure Inv-loop μ-loop
 mul-put-failure c = search needs
 
+add-put-failure : tie.Need-add-put-failure Inv-loop μ-loop
+add-put-failure c = search needs
+
 put-failure-requires : tie.Need-put-failure-requires Inv-loop μ-loop
 put-failure-requires c κs = search needs
 
@@ -40,4 +43,4 @@ returns : tie.Need-returns Inv-loop μ-loop
 returns c = search needs
 
 pub write-failures-spec : {M : Type 1} → statement M
-write-failures-spec = tie.close (tie.spec Inv-loop μ-loop loop-holds mul-put-failure put-failure-requires add-i loop-less loop-again put-requires same-length returns)
+write-failures-spec = tie.close (tie.spec Inv-loop μ-loop loop-holds mul-put-failure add-put-failure put-failure-requires add-i loop-less loop-again put-requires same-length returns)

@@ -69,8 +69,8 @@ pub fn reading_and_printing(name: &str, printed: &Formula, rounds: u32) -> Timed
 }
 
 /// The test that begins every call of `prove`, and `reset`.
-pub fn memory_test(name: &str, words: &[u16], rounds: u32) -> Timed {
-    assert_eq!(library::well_formed(words), 0, "{name}");
+pub fn memory_test(name: &str, words: &[u16], is_right: bool, rounds: u32) -> Timed {
+    assert_eq!(library::well_formed(words) == 0, is_right, "{name}");
     let ours = best(rounds, || library::well_formed(words));
     Timed { name: format!("well_formed: {name}"), bytes: 2 * words.len(), ours, rusts: None }
 }

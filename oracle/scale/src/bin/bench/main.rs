@@ -2,6 +2,7 @@
 
 mod calls;
 mod families;
+mod memories;
 mod plot;
 mod searches;
 mod timing;
@@ -68,10 +69,11 @@ fn other_calls(rounds: u32, full: &Full) {
         show_timed(&calls::printing(name, &formula, rounds));
         show_timed(&calls::reading_and_printing(name, &formula, rounds));
     }
-    let mut fresh = vec![0; full.words().len()];
-    show_timed(&calls::memory_test("fresh memory", &fresh, rounds));
-    show_timed(&calls::memory_test("full memory", full.words(), rounds));
-    show_timed(&calls::resetting(&mut fresh, rounds));
+    for (name, words, is_right) in memories::memories() {
+        show_timed(&calls::memory_test(name, &words, is_right, rounds));
+    }
+    show_timed(&calls::memory_test("the full memory of the searches", full.words(), true, rounds));
+    show_timed(&calls::resetting(&mut vec![0; full.words().len()], rounds));
 }
 
 fn mean_of(name: &str, rows: &[Measured], chosen: impl Fn(&Measured) -> bool) -> f64 {
