@@ -108,7 +108,7 @@ uint8_t vk_well_formed(const uint16_t *mem, size_t mem_len);
  * failed are recorded in mem and not searched again; they stay from call to call until vk_reset, and were recorded without the depth left at
  * the time, so that a larger limit alone does not bring them back. Answers 0, 1 and 2 to 12. On any answer but 0, out stays as it is and
  * *written is 0. On 11, 12 and refusals of the question, mem and work stay as they are and the counters are 0. */
-uint8_t vk_prove(struct vk_counters *counters, const uint8_t *question, size_t question_len, size_t limit, size_t budget, bool cache,
+uint8_t vk_prove_into(struct vk_counters *counters, const uint8_t *question, size_t question_len, size_t limit, size_t budget, bool cache,
                  uint16_t *mem, size_t mem_len, uint64_t *work, size_t work_len, uint8_t *out, size_t out_len, size_t *written);
 
 #ifdef __cplusplus

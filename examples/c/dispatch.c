@@ -65,7 +65,7 @@ static const char *believed(const struct bytes *q, const uint8_t *t, size_t t_le
 
 static uint8_t search(const char *what, const struct bytes *q, size_t *written) {
     struct vk_counters c;
-    uint8_t answer = vk_prove(&c, q->at, q->len, 32, VK_MAX_BUDGET, true, memory, VK_MEMORY_WORDS, work, VK_MAX_BUDGET, tree, sizeof tree, written);
+    uint8_t answer = vk_prove_into(&c, q->at, q->len, 32, VK_MAX_BUDGET, true, memory, VK_MEMORY_WORDS, work, VK_MAX_BUDGET, tree, sizeof tree, written);
     printf("%s: answer %u, explored %zu hits %zu depth %zu, %zu bytes\n", what, answer, c.explored, c.hits, c.reached, *written);
     return answer;
 }

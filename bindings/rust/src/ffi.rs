@@ -38,7 +38,7 @@ extern "C" {
     fn vk_memory_words() -> usize;
     fn vk_reset(mem: *mut u16, mem_len: usize) -> u8;
     fn vk_well_formed(mem: *const u16, mem_len: usize) -> u8;
-    fn vk_prove(
+    fn vk_prove_into(
         counters: *mut Counters,
         question: *const u8,
         question_len: usize,
@@ -130,7 +130,7 @@ pub fn prove(question: &[u8], set: Settings, mem: &mut [u16], work: &mut [u64], 
     let mut written = 0;
     // SAFETY: each slice is as long as is said, and those lent for writing are apart; `Counters` is laid out as C lays it out.
     let answer = unsafe {
-        vk_prove(
+        vk_prove_into(
             &mut counters,
             question.as_ptr(),
             question.len(),

@@ -1,5 +1,9 @@
 // One call of `prove`: what it is asked with, and what it said.
+ghost use mathlib.Core.Path.{_≡_};
+ghost use lib.ListN.{length};
+ghost use Rattle.memory.specs.Meaning.{words};
 use prover::Answer;
+use search::counters::Counters;
 
 pub const BUDGET: usize = 16384;
 
@@ -19,29 +23,21 @@ fn wide(b: u8) -> usize {
     b as usize
 }
 
+fn counted(answer: usize, c: Counters, written: usize) -> Said {
+    Said {
+        answer,
+        explored: c.explored,
+        hits: c.hits,
+        reached: c.reached,
+        written,
+    }
+}
+
 fn told(answer: Answer) -> Said {
     match answer {
-        Answer::Found(written, c) => Said {
-            answer: 0,
-            explored: c.explored,
-            hits: c.hits,
-            reached: c.reached,
-            written,
-        },
-        Answer::Nothing(c) => Said {
-            answer: 1,
-            explored: c.explored,
-            hits: c.hits,
-            reached: c.reached,
-            written: 0,
-        },
-        Answer::Refused(why, c) => Said {
-            answer: wide(formula::number(why)),
-            explored: c.explored,
-            hits: c.hits,
-            reached: c.reached,
-            written: 0,
-        },
+        Answer::Found(written, c) => counted(0, c, written),
+        Answer::Nothing(c) => counted(1, c, 0),
+        Answer::Refused(why, c) => counted(wide(formula::number(why)), c, 0),
     }
 }
 
@@ -69,6 +65,13 @@ pub fn uncached() -> Settings {
     to(32, false)
 }
 
+// Room for the longest message.
+pub fn room() -> [u8; MESSAGE]
+    ensures { λ r. ⌜ 65539 ≡ length r ⌝ }
+{
+    [0; MESSAGE]
+}
+
 // The question is the first n bytes of `message`.
 pub fn ask(
     message: &[u8],
@@ -80,6 +83,27 @@ pub fn ask(
 ) -> Said {
     let n = stored::at_most(n, message);
     told(prover::prove(&message[..n], by.limit, by.budget, by.cache, mem, work, out))
+}
+
+// The same, with a work slice of the longest budget.
+pub fn ask_into(message: &[u8], n: usize, by: Settings, mem: &mut [u16], out: &mut [u8]) -> Said {
+    let mut work = [0u64; BUDGET];
+    ask(message, n, by, mem, &mut work, out)
+}
+
+// The same, where no tree is looked at.
+pub fn ask_only(message: &[u8], n: usize, by: Settings, mem: &mut [u16]) -> Said {
+    let mut out = room();
+    ask_into(message, n, by, mem, &mut out)
+}
+
+// A memory that holds nothing.
+pub fn fresh() -> [u16; memory::WORDS]
+    ensures { λ r. ⌜ words ≡ length r ⌝ }
+{
+    let mut mem = [0u16; memory::WORDS];
+    memory::reset(&mut mem);
+    mem
 }
 
 fn wide_word(w: u16) -> usize {

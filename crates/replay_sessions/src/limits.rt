@@ -1,20 +1,26 @@
 // What passes at a limit of document 01, and what is refused past it: the unstarred settled runs, and the order of the refusals at entry.
+ghost use Prim.Native.Nat.{_≤_};
 use crate::asking::BUDGET;
 use crate::asking::MESSAGE;
+use crate::asking::Said;
 use crate::asking::Settings;
 use crate::asking::ask;
+use crate::asking::ask_only;
+use crate::asking::fresh;
+use crate::asking::room;
 use crate::asking::to;
 use crate::asking::uncached;
 use crate::asking::usual;
-use crate::message::atom;
 use crate::message::atoms;
 use crate::message::comb;
 use crate::message::linear;
+use crate::message::lone_atom;
 use crate::message::tower;
 use crate::message::towers;
 use crate::settled::Expected;
 use crate::settled::alone;
 use crate::settled::is;
+use crate::settled::is_said;
 use crate::settled::next;
 use crate::settled::wanted;
 use question::FIRST;
@@ -56,41 +62,61 @@ fn high(levels: usize, e: Expected) -> bool {
     alone(&buf, n, to(64, true), MESSAGE, e)
 }
 
-// Fewer than three bytes, version, length, kind, the zones' lengths, bytes left over, formulas; then widths and heights.
-pub fn reading() -> Tally {
-    Tally::new()
-        .with(reads(b"", 3))
-        .with(reads(b"\x02\x00", 3))
-        .with(reads(b"\x02\x00\x01", 2))
-        .with(reads(b"\x01\x00\x01", 3))
-        .with(reads(b"\x01\x00\x00", 3))
-        .with(reads(b"\x01\x00\x05\x03\x00\x00\x00\x00", 2))
-        .with(reads(b"\x01\x00\x03\x01\x00\x00", 3))
-        .with(reads(b"\x01\x00\x06\x01\x00\x01\x0D\x00\x01", 3))
-        .with(reads(b"\x01\x00\x07\x01\x00\x01\x0D\x00\x00\x00", 3))
-        .with(reads(b"\x01\x00\x06\x01\x00\x01\x0D\x00\x00", 4))
-        .with(reads(b"\x01\x00\x06\x02\x00\x00\x00\x01\x04", 3))
-        .with(wide(31, wanted(1, 1, 0, 0, 31, 1)))
-        .with(wide(32, refused(6)))
-        .with(high(63, wanted(0, 64, 0, 63, 64, 0)))
-        .with(high(64, refused(5)))
+// Fewer than three bytes, version, length, kind.
+fn heads(tally: Tally) -> Tally {
+    let mut t = tally;
+    t = t.with(reads(b"", 3));
+    t = t.with(reads(b"\x02\x00", 3));
+    t = t.with(reads(b"\x02\x00\x01", 2));
+    t = t.with(reads(b"\x01\x00\x01", 3));
+    t = t.with(reads(b"\x01\x00\x00", 3));
+    t.with(reads(b"\x01\x00\x05\x03\x00\x00\x00\x00", 2))
 }
 
-// The pair, with these settings and so many words to work in.
+// The zones' lengths, bytes left over, formulas.
+fn zones(tally: Tally) -> Tally {
+    let mut t = tally;
+    t = t.with(reads(b"\x01\x00\x03\x01\x00\x00", 3));
+    t = t.with(reads(b"\x01\x00\x06\x01\x00\x01\x0D\x00\x01", 3));
+    t = t.with(reads(b"\x01\x00\x07\x01\x00\x01\x0D\x00\x00\x00", 3));
+    t = t.with(reads(b"\x01\x00\x06\x01\x00\x01\x0D\x00\x00", 4));
+    t.with(reads(b"\x01\x00\x06\x02\x00\x00\x00\x01\x04", 3))
+}
+
+// What reading refuses, in its order; then widths and heights.
+pub fn reading() -> Tally {
+    let mut t = heads(Tally::new());
+    t = zones(t);
+    t = t.with(wide(31, wanted(1, 1, 0, 0, 31, 1)));
+    t = t.with(wide(32, refused(6)));
+    t = t.with(high(63, wanted(0, 64, 0, 63, 64, 0)));
+    t.with(high(64, refused(5)))
+}
+
+// The most words that are lent to work in: one more than the longest budget.
+const WORK: usize = 16385;
+
+// The pair, with so many words to work in.
+fn pair_by(by: Settings, words: usize, mem: &mut [u16]) -> Said
+    requires { ⌜ words ≤ 16385 ⌝ }
+{
+    let mut work = [0u64; WORK];
+    let mut out = room();
+    ask(&PAIR, 14, by, mem, &mut work[..words], &mut out)
+}
+
+// The same, on a memory that holds nothing.
 fn set(limit: usize, budget: usize, words: usize, e: Expected) -> bool {
-    let mut mem = [0u16; memory::WORDS];
-    memory::reset(&mut mem);
-    let mut work = [0u64; 16385];
-    let mut out = [0u8; MESSAGE];
-    if work.len() < words {
+    if words > WORK {
         return false;
     }
+    let mut mem = fresh();
     let by = Settings {
         limit,
         budget,
         cache: true,
     };
-    let said = ask(&PAIR, 14, by, &mut mem, &mut work[..words], &mut out);
+    let said = pair_by(by, words, &mut mem);
     is(said, &mem, e)
 }
 
@@ -100,28 +126,29 @@ fn found() -> Expected {
 
 // Depth limits, budgets, and work slices of just the budget and one word fewer.
 pub fn settings() -> Tally {
-    Tally::new()
-        .with(set(64, BUDGET, BUDGET, found()))
-        .with(set(65, BUDGET, BUDGET, refused(11)))
-        .with(set(0, BUDGET, BUDGET, found()))
-        .with(set(32, 16385, 16385, refused(11)))
-        .with(set(32, 0, BUDGET, refused(11)))
-        .with(set(32, BUDGET, 16385, found()))
-        .with(set(32, BUDGET, 16383, refused(11)))
-        .with(set(32, 16383, 16383, found()))
-        .with(set(32, 1, 1, found()))
-        .with(set(32, 1, 0, refused(11)))
+    let mut t = Tally::new();
+    t = t.with(set(64, BUDGET, BUDGET, found()));
+    t = t.with(set(65, BUDGET, BUDGET, refused(11)));
+    t = t.with(set(0, BUDGET, BUDGET, found()));
+    t = t.with(set(32, 16385, 16385, refused(11)));
+    t = t.with(set(32, 0, BUDGET, refused(11)));
+    t = t.with(set(32, BUDGET, 16385, found()));
+    t = t.with(set(32, BUDGET, 16383, refused(11)));
+    t = t.with(set(32, 16383, 16383, found()));
+    t = t.with(set(32, 1, 1, found()));
+    t.with(set(32, 1, 0, refused(11)))
 }
+
+// One word more than a memory has.
+const TOO_LONG: usize = memory::WORDS + 1;
 
 // The pair, on so many words that hold nothing.
 fn long(words: usize, answer: usize) -> bool {
-    let mut mem = [0u16; 44291];
-    let mut work = [0u64; BUDGET];
-    let mut out = [0u8; MESSAGE];
+    let mut mem = [0u16; TOO_LONG];
     if mem.len() < words {
         return false;
     }
-    let said = ask(&PAIR, 14, usual(), &mut mem[..words], &mut work, &mut out);
+    let said = ask_only(&PAIR, 14, usual(), &mut mem[..words]);
     said.answer == answer
 }
 
@@ -133,67 +160,80 @@ fn changed(mem: &mut [u16], at: usize, word: u16) {
 
 // A question asked after the pair in a memory where one word was changed. It is refused with the counters at 0.
 fn spoilt(at: usize, word: u16, message: &[u8], limit: usize, answer: usize) -> bool {
-    let mut mem = [0u16; memory::WORDS];
-    let mut work = [0u64; BUDGET];
-    let mut out = [0u8; MESSAGE];
-    memory::reset(&mut mem);
-    ask(&PAIR, 14, usual(), &mut mem, &mut work, &mut out);
+    let mut mem = fresh();
+    ask_only(&PAIR, 14, usual(), &mut mem);
     changed(&mut mem, at, word);
-    let said = ask(
-        message,
-        message.len(),
-        to(limit, true),
-        &mut mem,
-        &mut work,
-        &mut out,
-    );
-    said.answer == answer && said.explored == 0 && said.hits == 0 && said.reached == 0
+    let said = ask_only(message, message.len(), to(limit, true), &mut mem);
+    is_said(said, refused(answer))
+}
+
+// The pair asked again is refused for the memory.
+fn is_spoilt(at: usize, word: u16) -> bool {
+    spoilt(at, word, &PAIR, 32, 12)
+}
+
+// What is refused where no byte is asked.
+fn comes_first(at: usize, word: u16, limit: usize, answer: usize) -> bool {
+    spoilt(at, word, b"", limit, answer)
+}
+
+// The pair, in a memory that was lent before.
+fn asks_pair(mem: &mut [u16], e: Expected) -> bool {
+    next(&PAIR, 14, usual(), MESSAGE, mem, e)
 }
 
 // A spoilt memory is well-formed again after `reset`.
 fn mended() -> bool {
-    let mut mem = [0u16; memory::WORDS];
+    let mut mem = fresh();
     changed(&mut mem, 0, 2049);
     memory::reset(&mut mem);
-    next(&PAIR, 14, usual(), MESSAGE, &mut mem, found())
+    asks_pair(&mut mem, found())
 }
 
-// The wrong length; a count, a tag, a name, a height, a size, an order word, a word past what is held, and the same of the failures; 11 before 12 before reading.
+// A count, a tag, a name, a height, a size, an order word, a word past what is held, and the same of the failures.
+fn words(tally: Tally) -> Tally {
+    let mut t = tally;
+    t = t.with(is_spoilt(0, 2049));
+    t = t.with(is_spoilt(0, 3));
+    t = t.with(is_spoilt(1, 13));
+    t = t.with(is_spoilt(1, 5));
+    t = t.with(is_spoilt(3, 1));
+    t = t.with(is_spoilt(4, 2));
+    t = t.with(is_spoilt(5, 1));
+    t = t.with(is_spoilt(11, 1));
+    t = t.with(is_spoilt(held::ORDER, 1));
+    t = t.with(is_spoilt(held::ORDER + 2, 1));
+    t = t.with(is_spoilt(memory::FORMULAS, 1001));
+    t = t.with(is_spoilt(memory::FORMULAS + 1, 1));
+    t.with(is_spoilt(memory::WORDS - 1, 1))
+}
+
+// The wrong length; a wrong word; 11 before 12 before reading.
 pub fn memories() -> Tally {
-    Tally::new()
-        .with(long(memory::WORDS, 0))
-        .with(long(44289, 12))
-        .with(long(44291, 12))
-        .with(long(0, 12))
-        .with(spoilt(0, 2049, &PAIR, 32, 12))
-        .with(spoilt(0, 3, &PAIR, 32, 12))
-        .with(spoilt(1, 13, &PAIR, 32, 12))
-        .with(spoilt(1, 5, &PAIR, 32, 12))
-        .with(spoilt(3, 1, &PAIR, 32, 12))
-        .with(spoilt(4, 2, &PAIR, 32, 12))
-        .with(spoilt(5, 1, &PAIR, 32, 12))
-        .with(spoilt(11, 1, &PAIR, 32, 12))
-        .with(spoilt(10241, 1, &PAIR, 32, 12))
-        .with(spoilt(10243, 1, &PAIR, 32, 12))
-        .with(spoilt(memory::FORMULAS, 1001, &PAIR, 32, 12))
-        .with(spoilt(12290, 1, &PAIR, 32, 12))
-        .with(spoilt(44289, 1, &PAIR, 32, 12))
-        .with(spoilt(0, 2049, b"", 32, 12))
-        .with(spoilt(0, 2049, b"", 65, 11))
-        .with(spoilt(0, 2, b"", 32, 3))
-        .with(mended())
+    let mut t = Tally::new();
+    t = t.with(long(memory::WORDS, 0));
+    t = t.with(long(memory::WORDS - 1, 12));
+    t = t.with(long(TOO_LONG, 12));
+    t = t.with(long(0, 12));
+    t = words(t);
+    t = t.with(comes_first(0, 2049, 32, 12));
+    t = t.with(comes_first(0, 2049, 65, 11));
+    t = t.with(comes_first(0, 2, 32, 3));
+    t.with(mended())
 }
 
-// Formulas are entered into a memory: the atoms from one name up to another, one a question, and with the cache off no failure.
+// A question of one atom enters it. With the cache off it leaves no failure.
+fn enter_atom(name: usize, mem: &mut [u16]) {
+    let mut buf = [0u8; ROOM];
+    let n = lone_atom(&mut buf, name);
+    ask_only(&buf, n, uncached(), mem);
+}
+
+// The atoms from one name up to another are entered into a memory.
 pub fn fill(from: usize, to: usize, mem: &mut [u16]) {
-    let mut work = [0u64; BUDGET];
-    let mut out = [0u8; MESSAGE];
     let mut name = from;
     while name < to {
-        let mut buf = [0u8; ROOM];
-        let end = atom(&mut buf, FIRST, name);
-        let n = linear(&mut buf, end);
-        ask(&buf, n, uncached(), mem, &mut work, &mut out);
+        enter_atom(name, mem);
         name += 1;
     }
 }
@@ -201,36 +241,20 @@ pub fn fill(from: usize, to: usize, mem: &mut [u16]) {
 // The question of one atom.
 fn asks_atom(name: usize, mem: &mut [u16], e: Expected) -> bool {
     let mut buf = [0u8; ROOM];
-    let end = atom(&mut buf, FIRST, name);
-    let n = linear(&mut buf, end);
+    let n = lone_atom(&mut buf, name);
     next(&buf, n, usual(), MESSAGE, mem, e)
 }
 
 // 2,048 formulas are held, and the question that needs one more enters none.
 pub fn formulas() -> Tally {
-    let mut mem = [0u16; memory::WORDS];
-    memory::reset(&mut mem);
+    let mut mem = fresh();
     fill(1000, 3047, &mut mem);
-    Tally::new()
-        .with(next(
-            &PAIR,
-            14,
-            usual(),
-            MESSAGE,
-            &mut mem,
-            wanted(7, 0, 0, 0, 2047, 0),
-        ))
-        .with(asks_atom(1, &mut mem, wanted(1, 1, 0, 0, 2048, 1)))
-        .with(next(
-            &PAIR,
-            14,
-            usual(),
-            MESSAGE,
-            &mut mem,
-            wanted(7, 0, 0, 0, 2048, 1),
-        ))
-        .with(asks_atom(2, &mut mem, wanted(7, 0, 0, 0, 2048, 1)))
-        .with(asks_atom(1, &mut mem, wanted(1, 1, 1, 0, 2048, 1)))
+    let mut t = Tally::new();
+    t = t.with(asks_pair(&mut mem, wanted(7, 0, 0, 0, 2047, 0)));
+    t = t.with(asks_atom(1, &mut mem, wanted(1, 1, 0, 0, 2048, 1)));
+    t = t.with(asks_pair(&mut mem, wanted(7, 0, 0, 0, 2048, 1)));
+    t = t.with(asks_atom(2, &mut mem, wanted(7, 0, 0, 0, 2048, 1)));
+    t.with(asks_atom(1, &mut mem, wanted(1, 1, 1, 0, 2048, 1)))
 }
 
 // So many failures are recorded, one of each atom.
@@ -245,27 +269,18 @@ fn fail(count: usize, mem: &mut [u16]) -> Tally {
     tally
 }
 
+// 0⊕1, in a memory that was lent before.
+fn asks_choice(by: Settings, mem: &mut [u16], e: Expected) -> bool {
+    next(&CHOICE, 11, by, MESSAGE, mem, e)
+}
+
 // 1,000 failures are held, and the next that is new is refused in the middle of the search. One that is held is still a hit, and with the cache off nothing is recorded.
 pub fn failures() -> Tally {
-    let mut mem = [0u16; memory::WORDS];
-    memory::reset(&mut mem);
-    fail(1000, &mut mem).with(next(
-            &CHOICE,
-            11,
-            usual(),
-            MESSAGE,
-            &mut mem,
-            wanted(9, 2, 0, 1, 1003, 1000),
-        ))
-        .with(asks_atom(7, &mut mem, wanted(1, 1, 1, 0, 1003, 1000)))
-        .with(next(
-            &CHOICE,
-            11,
-            uncached(),
-            MESSAGE,
-            &mut mem,
-            wanted(0, 3, 0, 1, 1003, 1000),
-        ))
+    let mut mem = fresh();
+    let mut t = fail(1000, &mut mem);
+    t = t.with(asks_choice(usual(), &mut mem, wanted(9, 2, 0, 1, 1003, 1000)));
+    t = t.with(asks_atom(7, &mut mem, wanted(1, 1, 1, 0, 1003, 1000)));
+    t.with(asks_choice(uncached(), &mut mem, wanted(0, 3, 0, 1, 1003, 1000)))
 }
 
 // ⊤&(⊤&(.. ⊤)) with 32 & beside formulas of 64 bytes 15 times and one more: the tree's body has 65 nodes.
@@ -278,12 +293,17 @@ fn body(last: usize, e: Expected) -> bool {
     alone(&buf, n, usual(), MESSAGE, e)
 }
 
+// The pair, with so much room for its tree.
+fn into(room: usize, e: Expected) -> bool {
+    alone(&PAIR, 14, usual(), room, e)
+}
+
 // The buffer just long enough, one byte short, and empty; a body of 65,471 bytes and one of 65,536.
 pub fn trees() -> Tally {
-    Tally::new()
-        .with(alone(&PAIR, 14, usual(), PAIR_TREE, found()))
-        .with(alone(&PAIR, 14, usual(), PAIR_TREE - 1, wanted(10, 1, 0, 0, 2, 0)))
-        .with(alone(&PAIR, 14, usual(), 0, wanted(10, 1, 0, 0, 2, 0)))
-        .with(body(23, wanted(0, 65, 0, 32, 97, 0)))
-        .with(body(24, wanted(10, 65, 0, 32, 97, 0)))
+    let mut t = Tally::new();
+    t = t.with(into(PAIR_TREE, found()));
+    t = t.with(into(PAIR_TREE - 1, wanted(10, 1, 0, 0, 2, 0)));
+    t = t.with(into(0, wanted(10, 1, 0, 0, 2, 0)));
+    t = t.with(body(23, wanted(0, 65, 0, 32, 97, 0)));
+    t.with(body(24, wanted(10, 65, 0, 32, 97, 0)))
 }

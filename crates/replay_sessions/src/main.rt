@@ -7,11 +7,16 @@ mod settled; // settled.rt: a call whose answer is settled
 mod limits; // limits.rt: what passes at a limit, and what is refused past it
 mod middle; // middle.rt: refusals in the middle of a search
 
-fn main() {
-    replay::replay();
+// What is refused before a search.
+fn print_entry() {
     limits::reading().print(b" settled answers at reading");
     limits::settings().print(b" settled answers at the settings");
     limits::memories().print(b" settled answers at the lent memory");
+}
+
+fn main() {
+    replay::replay();
+    print_entry();
     limits::formulas().print(b" settled answers at full formulas");
     limits::failures().print(b" settled answers at full failures");
     limits::trees().print(b" settled answers at long trees");

@@ -83,14 +83,18 @@ fn less(a: usize, b: usize) -> usize {
     if a < b { 0 } else { a - b }
 }
 
+// The length of a zone, whose formulas stand behind it up to `end`.
+fn zone(buf: &mut [u8], at: usize, end: usize) {
+    number(buf, at, less(less(end, at), 2));
+}
+
 // The question of kind 1 whose linear formulas stand from FIRST to `middle` and whose unrestricted ones from two bytes further to `end`; answers its length.
 pub fn closed(buf: &mut [u8], middle: usize, end: usize) -> usize {
-    let body = byte(buf, 0, 1);
-    let kind = number(buf, body, less(end, 3));
-    let linear = byte(buf, kind, 1);
-    number(buf, linear, less(middle, FIRST));
-    let unrestricted = number(buf, middle, 0);
-    number(buf, middle, less(end, unrestricted));
+    byte(buf, 0, 1);
+    number(buf, 1, less(end, 3));
+    byte(buf, 3, 1);
+    zone(buf, FIRST - 2, middle);
+    zone(buf, middle, end);
     end
 }
 
@@ -98,4 +102,10 @@ pub fn closed(buf: &mut [u8], middle: usize, end: usize) -> usize {
 pub fn linear(buf: &mut [u8], end: usize) -> usize {
     let last = number(buf, end, 0);
     closed(buf, end, last)
+}
+
+// The question of one atom.
+pub fn lone_atom(buf: &mut [u8], name: usize) -> usize {
+    let end = atom(buf, FIRST, name);
+    linear(buf, end)
 }

@@ -1,10 +1,11 @@
 // The list of sessions: what the Rust said of each question, and the failures that were new after it.
-use crate::asking::BUDGET;
-use crate::asking::MESSAGE;
 use crate::asking::Said;
-use crate::asking::ask;
+use crate::asking::ask_into;
+use crate::asking::ask_only;
 use crate::asking::failures_held;
 use crate::asking::formulas_held;
+use crate::asking::fresh;
+use crate::asking::room;
 use crate::asking::to;
 use libc::STDOUT_FILENO;
 use question::FIRST;
@@ -31,7 +32,7 @@ fn is_counted(said: Said) -> bool {
 // The tree in `out` is the one that the list has next. One of no bytes is none.
 fn is_written(said: Said, out: &[u8]) -> bool {
     let length = stored::long_number();
-    let mut tree = [0u8; MESSAGE];
+    let mut tree = room();
     let n = stored::bytes(&mut tree, length);
     said.written == length && stored::starts(out, length, &tree[..n])
 }
@@ -50,30 +51,34 @@ fn copied(buf: &mut [u8], at: usize, n: usize) -> usize {
     at + stored::bytes(&mut buf[at..], n)
 }
 
-// The next item of the list: ?A goes to the unrestricted zone as A. The items are sorted by their bytes, so these come last.
+// Where an item begins: ?A goes to the unrestricted zone as A, behind the zone's length. The items are sorted by their bytes, so these come last.
+fn start(buf: &mut [u8], p: Place, tag: usize) -> Place {
+    if tag != WHY_NOT {
+        return Place {
+            at: crate::message::byte(buf, p.at, tag),
+            marked: p.marked,
+        };
+    }
+    if p.marked != 0 {
+        return p;
+    }
+    Place {
+        at: crate::message::number(buf, p.at, 0),
+        marked: p.at,
+    }
+}
+
+// The next item of the list.
 fn item(buf: &mut [u8], p: Place) -> Place {
     let n = stored::number();
     let tag = stored::byte();
     if n == 0 {
         return p;
     }
-    if tag != WHY_NOT {
-        let next = crate::message::byte(buf, p.at, tag);
-        return Place {
-            at: copied(buf, next, n - 1),
-            marked: p.marked,
-        };
-    }
-    if p.marked != 0 {
-        return Place {
-            at: copied(buf, p.at, n - 1),
-            marked: p.marked,
-        };
-    }
-    let next = crate::message::number(buf, p.at, 0);
+    let from = start(buf, p, tag);
     Place {
-        at: copied(buf, next, n - 1),
-        marked: p.at,
+        at: copied(buf, from.at, n - 1),
+        marked: from.marked,
     }
 }
 
@@ -94,78 +99,84 @@ fn failure(buf: &mut [u8]) -> usize {
     crate::message::closed(buf, p.marked, p.at)
 }
 
+fn is_hit(said: Said) -> bool {
+    said.answer == 1 && said.explored == 1 && said.hits == 1
+}
+
 // The failure that the list has next is held: it is a hit where it is asked, and its formulas are held.
-fn is_held(mem: &mut [u16], work: &mut [u64], out: &mut [u8]) -> bool {
-    let mut buf = [0u8; MESSAGE];
+fn is_held(mem: &mut [u16]) -> bool {
+    let mut buf = room();
     let n = failure(&mut buf);
     let before = formulas_held(mem);
-    let said = ask(&buf, n, to(0, true), mem, work, out);
-    said.answer == 1 && said.explored == 1 && said.hits == 1 && formulas_held(mem) == before
+    let said = ask_only(&buf, n, to(0, true), mem);
+    let after = formulas_held(mem);
+    is_hit(said) && after == before
 }
 
 // So many failures that the list has next.
-fn failures(
-    tally: Tally,
-    count: usize,
-    mem: &mut [u16],
-    work: &mut [u64],
-    out: &mut [u8],
-) -> Tally {
+fn failures(tally: Tally, count: usize, mem: &mut [u16]) -> Tally {
     let mut t = tally;
     let mut left = count;
     while left > 0 {
         left -= 1;
-        t = t.with(is_held(mem, work, out));
+        t = t.with(is_held(mem));
     }
     t
 }
 
-// The question that the list has next. As many failures are held as the Rust held, and those new are among them: so they are the same, as those before were.
-fn question(
-    r: Compared,
-    cache: bool,
-    mem: &mut [u16],
-    work: &mut [u64],
-    out: &mut [u8],
-) -> Compared {
+// The question that the list has next.
+fn asked(cache: bool, mem: &mut [u16], out: &mut [u8]) -> Said {
     let limit = stored::byte();
-    let mut buf = [0u8; MESSAGE];
+    let mut buf = room();
     let n = stored::bytes(&mut buf, stored::number());
-    let said = ask(&buf, n, to(limit, cache), mem, work, out);
-    let answer = stored::byte();
+    ask_into(&buf, n, to(limit, cache), mem, out)
+}
+
+// What was said is the Rust's answer, and the counters and the tree are those that the list has next.
+fn is_told(said: Said, answer: usize, out: &[u8]) -> bool {
     let counted = is_counted(said);
     let written = is_written(said, out);
-    let held = stored::number() == failures_held(mem);
-    let agrees = said.answer == answer && counted && written && held;
+    said.answer == answer && counted && written
+}
+
+// One question more, and the failures so far.
+fn with(r: Compared, answer: usize, agrees: bool, failures: Tally) -> Compared {
     let found = r.found;
     let not_found = r.not_found;
-    let before = r.failures;
-    let after = failures(before, stored::number(), mem, work, out);
     if answer == 0 {
         return Compared {
             found: found.with(agrees),
             not_found,
-            failures: after,
+            failures,
         };
     }
     Compared {
         found,
         not_found: not_found.with(agrees),
-        failures: after,
+        failures,
     }
+}
+
+// The question that the list has next. As many failures are held as the Rust held, and those new are among them: so they are the same, as those before were.
+fn question(r: Compared, cache: bool, mem: &mut [u16]) -> Compared {
+    let mut out = room();
+    let said = asked(cache, mem, &mut out);
+    let answer = stored::byte();
+    let told = is_told(said, answer, &out);
+    let held = stored::number() == failures_held(mem);
+    let before = r.failures;
+    let after = failures(before, stored::number(), mem);
+    with(r, answer, told && held, after)
 }
 
 // A session's questions, in one memory.
 fn session(replay: Compared, cache: bool, questions: usize) -> Compared {
-    let mut mem = [0u16; memory::WORDS];
-    memory::reset(&mut mem);
-    let mut work = [0u64; BUDGET];
-    let mut out = [0u8; MESSAGE];
+    let mut mem = fresh();
     let mut r = replay;
     let mut left = questions;
     while left > 0 {
         left -= 1;
-        r = question(r, cache, &mut mem, &mut work, &mut out);
+        r = question(r, cache, &mut mem);
     }
     r
 }

@@ -124,7 +124,7 @@ pub extern "C" fn vk_well_formed(mem: &[u16]) -> u8
 // search.rs: `Prover::prove`, of one question: the tree into `out`, its length into `written`, and explored, hits and depth reached into the lent counters. `mem` keeps formulas and failures for
 // later calls until `vk_reset`; `work` has at least `budget` words.
 #[no_mangle]
-pub extern "C" fn vk_prove(
+pub extern "C" fn vk_prove_into(
     counters: &mut Counters,
     question: &[u8],
     limit: usize,

@@ -37,7 +37,7 @@ extern "C" {
     fn vk_memory_words() -> usize;
     fn vk_reset(mem: *mut u16, mem_len: usize) -> u8;
     fn vk_well_formed(mem: *const u16, mem_len: usize) -> u8;
-    fn vk_prove(
+    fn vk_prove_into(
         counters: *mut Search,
         question: *const u8,
         question_len: usize,
@@ -165,7 +165,7 @@ pub fn prove(s: &[u8], settings: Settings, mem: &mut [u16], work: &mut [u64], ou
     let mut written = UNTOLD;
     // SAFETY: each pointer goes with the length of its slice, the slices are apart, and the record has the form of the header.
     let answer = unsafe {
-        vk_prove(
+        vk_prove_into(
             &mut search,
             s.as_ptr(),
             s.len(),

@@ -8,8 +8,8 @@ use Rattle.replay_sessions.proofs.limits.long.Tie as tie
 returns : tie.Need-returns
 returns c = search needs
 
-slice-aggregate-ask : tie.Need-slice-aggregate-ask
-slice-aggregate-ask c = search needs
+slice-aggregate-ask-only : tie.Need-slice-aggregate-ask-only
+slice-aggregate-ask-only c = search needs
 
 usual-requires : tie.Need-usual-requires
 usual-requires c κs = search needs
@@ -17,20 +17,14 @@ usual-requires c κs = search needs
 array-borrow-prefix-mem : tie.Need-array-borrow-prefix-mem
 array-borrow-prefix-mem c = search needs
 
-slice-aggregate-ask-2 : tie.Need-slice-aggregate-ask-2
-slice-aggregate-ask-2 c = front _ _ (omega arith)
+slice-aggregate-ask-only-2 : tie.Need-slice-aggregate-ask-only-2
+slice-aggregate-ask-only-2 c = front _ _ (omega arith)
 
-slice-aggregate-ask-3 : tie.Need-slice-aggregate-ask-3
-slice-aggregate-ask-3 c = search needs
-
-slice-aggregate-ask-4 : tie.Need-slice-aggregate-ask-4
-slice-aggregate-ask-4 c = search needs
-
-ask-requires : tie.Need-ask-requires
-ask-requires c κs = search needs
+ask-only-requires : tie.Need-ask-only-requires
+ask-only-requires c κs = search needs
 
 returns-2 : tie.Need-returns-2
 returns-2 c = search needs
 
 pub long-spec : {M : Type 1} → statement M
-long-spec = tie.close (tie.spec returns slice-aggregate-ask usual-requires array-borrow-prefix-mem slice-aggregate-ask-2 slice-aggregate-ask-3 slice-aggregate-ask-4 ask-requires returns-2)
+long-spec = tie.close (tie.spec returns slice-aggregate-ask-only usual-requires array-borrow-prefix-mem slice-aggregate-ask-only-2 ask-only-requires returns-2)

@@ -6,10 +6,10 @@ use Rattle.replay_sessions.proofs.replay.failures.Statement.{statement}
 use Rattle.replay_sessions.proofs.replay.failures.Tie as tie
 
 abbrev Inv-loop : tie.InvT-loop
-Inv-loop count mem₀ work₀ out₀ t₀ left₀ mem work out t left = (length mem ≡ length mem₀) × (length work ≡ length work₀) × (length out ≡ length out₀)
+Inv-loop count mem₀ t₀ left₀ mem t left = length mem ≡ length mem₀
 
 abbrev μ-loop : tie.MeasureT-loop
-μ-loop count mem₀ work₀ out₀ t₀ left₀ mem work out t left = left
+μ-loop count mem₀ t₀ left₀ mem t left = left
 
 loop-holds : tie.Need-loop-holds Inv-loop μ-loop
 loop-holds c = search needs
@@ -32,14 +32,8 @@ loop-again c = search needs
 same-length : tie.Need-same-length Inv-loop μ-loop
 same-length c = search needs
 
-same-length-2 : tie.Need-same-length-2 Inv-loop μ-loop
-same-length-2 c = search needs
-
-same-length-3 : tie.Need-same-length-3 Inv-loop μ-loop
-same-length-3 c = search needs
-
 returns : tie.Need-returns Inv-loop μ-loop
 returns c = search needs
 
 pub failures-spec : {M : Type 1} → statement M
-failures-spec = tie.close (tie.spec Inv-loop μ-loop loop-holds sub-left is-held-requires with-requires loop-less loop-again same-length same-length-2 same-length-3 returns)
+failures-spec = tie.close (tie.spec Inv-loop μ-loop loop-holds sub-left is-held-requires with-requires loop-less loop-again same-length returns)

@@ -1,21 +1,19 @@
 -- `replay_sessions::replay::session` is safe and ends: the questions still to come fall. Assumes nothing.
 use mathlib.Core.Path.{_≡_}
 use lib.ListN.{length}
+use Rattle.memory.specs.Meaning.{words}
 use borrow.Author.Needs.{needs}
 use Rattle.replay_sessions.proofs.replay.session.Statement.{statement}
 use Rattle.replay_sessions.proofs.replay.session.Tie as tie
 
 abbrev Inv-loop : tie.InvT-loop
-Inv-loop cache questions mem₀ work₀ out₀ r₀ left₀ mem work out r left = (length mem ≡ 44290) × (length work ≡ 16384) × (length out ≡ 65539)
+Inv-loop cache questions mem₀ r₀ left₀ mem r left = length mem ≡ words
 
 abbrev μ-loop : tie.MeasureT-loop
-μ-loop cache questions mem₀ work₀ out₀ r₀ left₀ mem work out r left = left
+μ-loop cache questions mem₀ r₀ left₀ mem r left = left
 
-slice-aggregate-reset : tie.Need-slice-aggregate-reset Inv-loop μ-loop
-slice-aggregate-reset c = search needs
-
-reset-requires : tie.Need-reset-requires Inv-loop μ-loop
-reset-requires c κs = search needs
+fresh-requires : tie.Need-fresh-requires Inv-loop μ-loop
+fresh-requires c κs = search needs
 
 loop-holds : tie.Need-loop-holds Inv-loop μ-loop
 loop-holds c = search needs
@@ -25,12 +23,6 @@ sub-left c = search needs
 
 slice-aggregate-question : tie.Need-slice-aggregate-question Inv-loop μ-loop
 slice-aggregate-question c = search needs
-
-slice-aggregate-question-2 : tie.Need-slice-aggregate-question-2 Inv-loop μ-loop
-slice-aggregate-question-2 c = search needs
-
-slice-aggregate-question-3 : tie.Need-slice-aggregate-question-3 Inv-loop μ-loop
-slice-aggregate-question-3 c = search needs
 
 question-requires : tie.Need-question-requires Inv-loop μ-loop
 question-requires c κs = search needs
@@ -45,4 +37,4 @@ returns : tie.Need-returns Inv-loop μ-loop
 returns c = search needs
 
 pub session-spec : {M : Type 1} → statement M
-session-spec = tie.close (tie.spec Inv-loop μ-loop slice-aggregate-reset reset-requires loop-holds sub-left slice-aggregate-question slice-aggregate-question-2 slice-aggregate-question-3 question-requires loop-less loop-again returns)
+session-spec = tie.close (tie.spec Inv-loop μ-loop fresh-requires loop-holds sub-left slice-aggregate-question question-requires loop-less loop-again returns)

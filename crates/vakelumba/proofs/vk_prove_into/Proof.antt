@@ -1,4 +1,4 @@
--- `vakelumba::vk_prove` meets its contract: a walk of its MIR, by hand. The lent slices and the place for the length are lent on to `asked`, at their own lifetimes and names; the borrow of `counters` is opened, the report's counters are stored in its place, and the borrow is closed at them.
+-- `vakelumba::vk_prove_into` meets its contract: a walk of its MIR, by hand. The lent slices and the place for the length are lent on to `asked`, at their own lifetimes and names; the borrow of `counters` is opened, the report's counters are stored in its place, and the borrow is closed at them.
 -- All that the proof knows of `asked` is that it meets its contract.
 -- Assumes nothing.
 use mathlib.Core.Path.{_≡_, refl, ap}
@@ -55,10 +55,10 @@ use Rattle.vakelumba.proofs.proved.asked as asked
 use Rattle.vakelumba.proofs.proved.asked.Symbol as asked-def
 use Rattle.vakelumba.proofs.proved.asked.Symbol.{name as #vakelumba·proved·asked}
 use Rattle.vakelumba.proofs.proved.asked.Met as asked-thm
-use Rattle.vakelumba.proofs.vk_prove.Key.{name as #vakelumba·vk-prove}
-use Rattle.vakelumba.proofs.vk_prove as f
-use Rattle.vakelumba.proofs.vk_prove.Statement as stated
-use Rattle.vakelumba.proofs.vk_prove.Code as code
+use Rattle.vakelumba.proofs.vk_prove_into.Key.{name as #vakelumba·vk-prove}
+use Rattle.vakelumba.proofs.vk_prove_into as f
+use Rattle.vakelumba.proofs.vk_prove_into.Statement as stated
+use Rattle.vakelumba.proofs.vk_prove_into.Code as code
 
 abbrev stayed : Stays (f.ended .signature .params) (f.ended .kept)
 stayed =
@@ -82,7 +82,7 @@ module _ {M : Type 1} (𝓤 : URA M) (H : Heap 𝓤) (A : Atoms 𝓤) (W : Given
   abbrev place : Val
   place = vptr (written .ptr .0) (written .ptr .1)
 
-  -- the arguments of `asked`, their machine values, lifetimes and tokens; those of `vk_prove` have `counters` before them
+  -- the arguments of `asked`, their machine values, lifetimes and tokens; those of `vk_prove_into` have `counters` before them
   abbrev Passed : Type 0
   Passed = RefT (List ℕ) × (ℕ × (ℕ × (Bool × (RefT (List ℕ) × (RefT (List ℕ) × (RefT (List ℕ) × (RefT ℕ × Unit {0})))))))
 
