@@ -13,7 +13,7 @@ use Rattle.logic.specs.Sequent.{Question, one-sided, two-sided, to-one-sided}
 use Rattle.logic.specs.Held.{enter-all, enter-question}
 use Rattle.wire.specs.Read.{got, read-question}
 use Rattle.wire.specs.Fits.{first-zone, second-zone}
-use Rattle.held.specs.Words.{count, most, view, told, Wf, Extends}
+use Rattle.held.specs.Words.{count, most, view, told, named, Wf, Extends}
 use Rattle.held.specs.WordsLaws.{extends-refl, extends-trans, keeps}
 use Rattle.held.specs.EnterLaws.{enter-all-longer}
 use Rattle.held.specs.CutLaws.{cut-back}
@@ -21,7 +21,7 @@ use Rattle.zones.specs.ZonesLaws.{map-at, below-append}
 use Rattle.question.specs.Answers.{kind-of}
 use Rattle.question.specs.Found.{Found, Cut}
 use Rattle.question.specs.declared.Places.{Places}
-use Rattle.enter.specs.Lists.{Names, Zone, Zoned, EnteredAll, OverAll, ListedAll, ListedFrom, Negatable, named, NegatedAll, NegatedFrom}
+use Rattle.enter.specs.Lists.{Names, Zone, Zoned, EnteredAll, OverAll, ListedAll, ListedFrom, Negatable, NegatedAll, NegatedFrom}
 use Rattle.enter.specs.declared.lists.Listed.{Listed}
 use Rattle.enter.specs.declared.lists.Listed.the-variants as listed
 use Rattle.ask.specs.declared.Asked.{Asked}

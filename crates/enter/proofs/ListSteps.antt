@@ -18,12 +18,12 @@ use Rattle.wire.specs.FormulaBytes.{length-write}
 use Rattle.wire.specs.ZoneBytes.{length-write-formulas, drop-split}
 use Rattle.formula.specs.Signs.{Stands}
 use Rattle.held.specs.EnterLaws.{enter-longer, enter-all-longer}
-use Rattle.held.specs.Words.{count, most, view, told, Wf, Extends}
+use Rattle.held.specs.Words.{count, most, view, told, named, Wf, Extends}
 use Rattle.held.specs.WordsLaws.{extends-refl, extends-trans, keeps}
 use Rattle.held.specs.Turn.{Entered, Refused}
 use Rattle.held.specs.OrderLaws.{le-or-lt, eq-or-not}
 use Rattle.enter.specs.Standing.{Enterable, EnteredFrom}
-use Rattle.enter.specs.Lists.{Names, Zone, Zoned, EnteredAll, OverAll, ListedAll, Negatable, named, NegatedAll}
+use Rattle.enter.specs.Lists.{Names, Zone, Zoned, EnteredAll, OverAll, ListedAll, Negatable, NegatedAll}
 use Rattle.enter.specs.declared.Entry.the-variants as entry
 
 -- ---- lists entered one after another

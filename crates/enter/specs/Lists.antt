@@ -3,14 +3,14 @@ use mathlib.Core.Path.{_≡_}
 use mathlib.Core.Bool.{Bool, true, false}
 use mathlib.Core.List.{List, [], map}
 use Prim.Native.Nat.{ℕ, _+_, _≤_, _<_}
-use lib.ListN.{getD, length, take}
+use lib.ListN.{getD, length}
 use lib.Seq.{slice}
 use Rattle.logic.specs.Formula.{Formula, One, negate}
 use Rattle.logic.specs.Held.{enter-all}
 use Rattle.wire.specs.Write.{write-formulas}
 use Rattle.wire.specs.Read.{got, read-all}
 use Rattle.wire.specs.Fits.{ZoneFits}
-use Rattle.held.specs.Words.{count, most, view, told, Wf, Extends}
+use Rattle.held.specs.Words.{count, most, view, told, named, Wf, Extends}
 use Rattle.enter.specs.declared.lists.Listed.{Listed}
 use Rattle.enter.specs.declared.lists.Listed.the-variants as listed
 
@@ -63,10 +63,6 @@ pub record Negatable (m numbers : List ℕ) (n : ℕ) : Type 0 where
   pub wf : Wf m
   pub room : n ≤ length numbers
   pub low : (j : ℕ) → j < n → getD numbers j 0 < count m
-
--- the formulas of the first n numbers
-abbrev pub named : List ℕ → List ℕ → ℕ → List Formula
-named m numbers n = map (told m) (take n numbers)
 
 -- the negations are entered, and listed in their places
 pub record NegatedAll (m numbers : List ℕ) (n : ℕ) (m' numbers' : List ℕ) : Type 0 where

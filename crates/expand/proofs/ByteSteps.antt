@@ -16,12 +16,12 @@ use Rattle.wire.specs.FormulaBytes.{length-write}
 use Rattle.wire.specs.ZoneBytes.{write-formulas-append, write-formulas-one, length-write-zone}
 use Rattle.formula.specs.RewritingLaws.{sets-append}
 use Rattle.held.specs.SignsLaws.{node-make}
-use Rattle.held.specs.Words.{at, count, view, told, Row, unit, name, two, one, Wf}
+use Rattle.held.specs.Words.{at, count, view, told, named, Row, unit, name, two, one, Wf}
 use Rattle.held.specs.Answers.{Field}
 use Rattle.held.specs.OrderLaws.{le-or-lt}
 use Rattle.held.specs.WordsLaws.{held-node, row-low, weights}
 use Rattle.held.proofs.RowSteps.{row-left, row-right}
-use Rattle.expand.specs.Writing.{Wrote, Formula-room, Items, Items-room, Zone-room, Weighs, named}
+use Rattle.expand.specs.Writing.{Wrote, Formula-room, Items, Items-room, Zone-room, Weighs}
 
 -- one run of bytes after another
 pub wrote-then : {out out₁ out₂ xs ys : List ℕ} {to n₁ n₂ : ℕ} → Wrote out to xs out₁ n₁ → Wrote out₁ n₁ ys out₂ n₂ → Wrote out to (xs ++ ys) out₂ n₂

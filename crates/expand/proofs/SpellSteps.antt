@@ -14,6 +14,8 @@ use Rattle.logic.specs.Parts.{tag-of, signs, make}
 use Rattle.logic.specs.PartsLaws.{leaf-tags, binary-tags, unary-tags, all-tags}
 use Rattle.logic.specs.Sequent.{Sequent, _﹔_}
 use Rattle.logic.specs.Built.{decomposable, Passed, none-yet, and-passed}
+use Rattle.logic.specs.Conclusion.{spell-first}
+use Rattle.logic.specs.Concludes.{spell-at}
 use Rattle.held.specs.Signs.{node}
 use Rattle.held.specs.SignsLaws.{node-make}
 use Rattle.held.specs.Words.{at, count, view, told, Wf}
@@ -23,8 +25,8 @@ use Rattle.held.specs.Answers.{Field, Next}
 use Rattle.zones.specs.declared.Zones.{Zones}
 use Rattle.zones.specs.Zones.{linears, Change, Adds, replace, replaced, Made, meant}
 use Rattle.zones.specs.ZonesLaws.{linears-length, linear-at, map-take, within-linear, within-made, meant-made}
-use Rattle.expand.specs.Short.{spelled, spell-first}
-use Rattle.expand.specs.ShortLaws.{spell-at, spell-length, plain-passed, plain-at}
+use Rattle.expand.specs.Short.{spelled}
+use Rattle.expand.specs.ShortLaws.{spell-length, plain-passed, plain-at}
 use Rattle.expand.specs.Negations.{Noted}
 use Rattle.expand.specs.Writing.{Sound, Means, decomposes, FirstAt, Spellable, SpelledAs, SpellsOut}
 use Rattle.expand.proofs.ByteSteps.{told-make, told-tag, tag-low, part-left, part-right}

@@ -10,8 +10,9 @@ use Rattle.logic.specs.Parts.{tag-of, left-part, right-part}
 use Rattle.logic.specs.Sequent.{_﹔_}
 use Rattle.logic.specs.Split.{left-of, right-of}
 use Rattle.logic.specs.Built.{decomposable}
+use Rattle.logic.specs.Conclusion.{spell-first}
 use Rattle.logic.specs.Tree.{Axiom, TensorIntro, ParIntro, node, ∅, _▹_}
-use Rattle.expand.specs.Short.{word, spell-first, steps, step, _and-then_, expand-all, expand}
+use Rattle.expand.specs.Short.{word, steps, step, _and-then_, expand-all, expand}
 
 -- a1⊸a1: the implication is spelled out, and no word says so
 lolli : expand 65 (Lolli (Atom 1) (Atom 1) ∷ [] ﹔ []) (word 5 0 0 ∷ word 0 0 0 ∷ [])

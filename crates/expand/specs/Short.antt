@@ -13,7 +13,6 @@ use Rattle.logic.specs.Parts.{tag-of, left-part, right-part}
 use Rattle.logic.specs.Sequent.{Sequent, _﹔_}
 use Rattle.logic.specs.Split.{left-of, right-of}
 use Rattle.logic.specs.Conclusion.{concluded}
-unfoldable pub use Rattle.logic.specs.Conclusion.{spell-first}
 use Rattle.logic.specs.Tree.{
   Rule,
   Axiom,

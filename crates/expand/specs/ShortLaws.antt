@@ -14,8 +14,8 @@ use Rattle.logic.specs.Parts.{tag-of, left-part, right-part}
 use Rattle.logic.specs.Sequent.{Sequent, _﹔_}
 use Rattle.logic.specs.Split.{left-of, right-of}
 use Rattle.logic.specs.Built.{decomposable, Passed, none-yet, and-passed}
-use Rattle.logic.specs.Concludes.{spell-passed}
-pub use Rattle.logic.specs.Concludes.{spell-at}
+use Rattle.logic.specs.Conclusion.{spell-first}
+use Rattle.logic.specs.Concludes.{spell-passed, spell-at}
 use Rattle.logic.specs.Tree.{
   Rule,
   Axiom,
@@ -39,7 +39,7 @@ use Rattle.logic.specs.Tree.{
   _▹_,
 }
 use Rattle.zones.specs.Zones.{remove, replace}
-use Rattle.expand.specs.Short.{word, rule-of, place-of, mask-of, spell-first, spelled, Step, _by_, if-so, steps, step, _and-then_, expand-all, grown, expand, Expands, Takes}
+use Rattle.expand.specs.Short.{word, rule-of, place-of, mask-of, spelled, Step, _by_, if-so, steps, step, _and-then_, expand-all, grown, expand, Expands, Takes}
 
 -- a word taken apart
 module _ (rule place mask : ℕ) (r : rule < 32) (p : place < 32) where

@@ -1,18 +1,18 @@
 -- What the functions on bytes, steps and trees ask and answer. Assumes nothing: these are definitions.
 use mathlib.Core.Path.{_≡_}
 use mathlib.Core.Bool.{Bool, true, false}
-use mathlib.Core.List.{List, [], _∷_, map}
+use mathlib.Core.List.{List, [], _∷_}
 use mathlib.Core.Option.{Option, none, some}
 use Prim.Native.Nat.{ℕ, _+_, _-_, _*_, _≤_, _<_}
 use lib.ListN.{getD, length, take}
 use lib.Seq.{sets}
-use Rattle.logic.specs.Formula.{Formula, among, spell, size}
+use Rattle.logic.specs.Formula.{among, spell, size}
 use Rattle.logic.specs.Sequent.{Sequent, _﹔_, count}
 use Rattle.logic.specs.Built.{decomposable}
 use Rattle.logic.specs.Tree.{Rule}
 use Rattle.wire.specs.Write.{write-formulas, write-zone}
 use Rattle.held.specs.Words as words
-use Rattle.held.specs.Words.{view, told, Wf}
+use Rattle.held.specs.Words.{view, told, named, Wf}
 use Rattle.zones.specs.declared.Zones.{Zones}
 use Rattle.zones.specs.Zones.{Fits, Within, Below, meant}
 use Rattle.expand.specs.Short.{Step, _by_, step, spelled}
@@ -36,10 +36,6 @@ pub record Items (m items : List ℕ) (n : ℕ) : Type 0 where
   pub sized : length items ≡ 31
   pub few : n ≤ 31
   pub below : Below (words.count m) (take n items)
-
--- the formulas that they name
-abbrev pub named : List ℕ → List ℕ → ℕ → List Formula
-named m items n = map (told m) (take n items)
 
 pub record Items-room (m items : List ℕ) (n : ℕ) (out : List ℕ) (to : ℕ) : Type 0 where
   pub good : Items m items n

@@ -2,8 +2,8 @@
 ghost use Prim.Native.Nat.{_+_, _<_, _≤_};
 ghost use lib.ListN.{length};
 ghost use Rattle.wire.specs.Write.{two-bytes, write-formula, write-formulas, write-zone};
-ghost use Rattle.held.specs.Words.{told};
-ghost use Rattle.expand.specs.Writing.{Wrote, Formula-room, Items, Items-room, Zone-room, Weighs, named};
+ghost use Rattle.held.specs.Words.{told, named};
+ghost use Rattle.expand.specs.Writing.{Wrote, Formula-room, Items, Items-room, Zone-room, Weighs};
 use held::words::field;
 
 // A number of two bytes.

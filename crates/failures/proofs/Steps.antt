@@ -1,7 +1,7 @@
--- What a test tells, and the loops of the well-formed test and of reset, step by step. Assumes nothing.
+-- What a test tells of another claim, and the loops of the well-formed test and of reset, step by step. Assumes nothing.
 use mathlib.Core.Path.{_≡_, refl, sym, ap, _∙_}
 use mathlib.Core.Logic.{⊎-elim}
-use mathlib.Core.Bool.{Bool, true, false, not, false≢true}
+use mathlib.Core.Bool.{Bool, true, false, not}
 use mathlib.Core.List.{List}
 use Prim.Native.Nat.{ℕ, zero, suc, _+_, _*_, _/_, _%_, _≤_, _<_}
 use native.Mathlib.Nat.{eq-or-lt-of-le, le-of-suc-le-suc}
@@ -17,15 +17,6 @@ use Rattle.held.specs.Words.{at, count, Zeros}
 use Rattle.failures.specs.Items.{Item, Listing}
 use Rattle.failures.specs.Records.{item-at, items-at}
 use Rattle.failures.specs.RecordsLaws.{items-listing, listing-next}
-
--- what a test tells
-pub told : (b : Bool) (P : Type 0) → Tells b P → b ≡ true → P
-told true P t e = t
-told false P t e = absurd (false≢true e)
-
-pub untold : (b : Bool) (P : Type 0) → Tells b P → b ≡ false → P → ⊥
-untold true P t e = absurd (false≢true (sym e))
-untold false P t e = t
 
 -- a test that tells one claim tells another that follows from it, and it from the other
 pub retold : (b : Bool) (P Q : Type 0) → (P → Q) → (Q → P) → Tells b P → Tells b Q

@@ -1,9 +1,9 @@
 -- The lent words and what they say. Word 0 is the count; formula i has five words from 1 + 5 * i: tag, left part or name, right part, height, size; order word j stands at 10241 + j.
 -- Assumes nothing: these are definitions.
 use mathlib.Core.Path.{_≡_}
-use mathlib.Core.List.{List, [], _∷_, _++_}
+use mathlib.Core.List.{List, [], _∷_, _++_, map}
 use Prim.Native.Nat.{ℕ, zero, suc, _+_, _*_, _≤_, _<_, max}
-use lib.ListN.{getD, length}
+use lib.ListN.{getD, length, take}
 use Rattle.logic.specs.Formula.{Formula, One}
 use Rattle.held.specs.Signs.{node}
 
@@ -47,6 +47,10 @@ view m = held m (count m)
 -- the formula with number x
 abbrev pub told : List ℕ → ℕ → Formula
 told m x = getD (view m) x One
+
+-- the formulas of the first n numbers of a list
+abbrev pub named : List ℕ → List ℕ → ℕ → List Formula
+named m numbers n = map (told m) (take n numbers)
 
 -- a formula with the tag t and the parts or name a and b may stand after the first n, with the height h and the size s
 pub data Row (m : List ℕ) (n t a b h s : ℕ) : Type 0 where

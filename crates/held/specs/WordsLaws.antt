@@ -278,7 +278,7 @@ pub number-once : (m : List ℕ) → Wf m → (i j : ℕ) → i < count m → j 
 number-once m z i j u v = (different m (count m) (z .few) (z .formulas) (z .order) .once i j u v, λ e. ap (told m) e)
 
 -- one state, one image: the words are settled by the formulas they say
-five : (P : ℕ → Type 0) → P 0 → P 1 → P 2 → P 3 → P 4 → (k : ℕ) → k < 5 → P k
+pub five : (P : ℕ → Type 0) → P 0 → P 1 → P 2 → P 3 → P 4 → (k : ℕ) → k < 5 → P k
 five P p₀ p₁ p₂ p₃ p₄ = below-more P 4 (below-more P 3 (below-more P 2 (below-more P 1 (below-more P 0 (below-none P) p₀) p₁) p₂) p₃) p₄
 
 module _ (m m' : List ℕ) (z : Wf m) (z' : Wf m') (e : view m ≡ view m') where

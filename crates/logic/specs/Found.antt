@@ -3,7 +3,7 @@
 use mathlib.Core.Path.{_≡_, refl, sym, ap, subst, _∙_}
 use mathlib.Core.Bool.{Bool, true, false, _&&_, false≢true, and-eq-true-iff}
 use native.Mathlib.Nat.{suc-ne-zero, suc-inj}
-use mathlib.Core.List.{List, [], _∷_, _++_, append-assoc, append-nil, nil≢cons}
+use mathlib.Core.List.{List, [], _∷_, _++_, append-nil, nil≢cons}
 use Prim.Native.Nat.{ℕ, zero, suc, _+_, _≤_, _<_, _^_}
 use lib.ListN.{length}
 use lib.Dec.{eqb}
@@ -12,6 +12,7 @@ use native.Mathlib.Omega.{arith}
 use Rattle.logic.specs.Formula.{Formula, One, Bottom, Top, Zero, Atom, NegAtom, Tensor, Par, With, Plus, Lolli, OfCourse, WhyNot, is-positive, same, among}
 use Rattle.logic.specs.FormulaLaws.{same-iff}
 use Rattle.logic.specs.Sequent.{Sequent, _﹔_, Question, to-one-sided}
+use Rattle.logic.specs.ZoneLaws.{snoc}
 use Rattle.logic.specs.Tree.{Rule, Tree, node, ∅, _▹_}
 use Rattle.logic.specs.Key.{Key, sequent-key, contains}
 use Rattle.logic.specs.Held.{enter, enter-question}
@@ -154,7 +155,7 @@ module _ {I : State → Type 0} {P : Tree → Type 0} where
     where
       go : (before after : List Formula) → l ≡ before ++ after → Meets I P (each body before after)
       go before [] e = meets-nothing
-      go before (f ∷ after) e = meets-or (h before f after e) (go (before ++ (f ∷ [])) after (e ∙ sym (append-assoc before (f ∷ []) after)))
+      go before (f ∷ after) e = meets-or (h before f after e) (go (before ++ (f ∷ [])) after (snoc before f after e))
 
 -- What keeps I: the four ways in which a search changes the state. J holds between the count of a visit and what follows it
 pub record Keeps (settings : Settings) (limit : ℕ) (I J : State → Type 0) : Type 0 where
@@ -191,10 +192,7 @@ one-beside : (before : List Formula) (x y : Formula) (after : List Formula) {l :
 one-beside before x y after {l} e t =
     one-of-length y (before ++ after) (and-eq-true-iff _ _ .0 t .0) (suc-inj (sym (length-beside before x after) ∙ ap length (sym e) ∙ eqb-true _ 2 (and-eq-true-iff (among y (before ++ after)) (eqb (length l) 2) .0 t .1)))
 
-snoc : {l : List Formula} (before : List Formula) (f : Formula) (after : List Formula) → l ≡ before ++ (f ∷ after) → l ≡ before ++ (f ∷ []) ++ after
-snoc before f after e = e ∙ sym (append-assoc before (f ∷ []) after)
-
-passed-snoc : {before : List Formula} (f : Formula) → Passed before → decomposable f ≡ false → Passed (before ++ (f ∷ []))
+pub passed-snoc : {before : List Formula} (f : Formula) → Passed before → decomposable f ≡ false → Passed (before ++ (f ∷ []))
 passed-snoc f none-yet h = and-passed h none-yet
 passed-snoc f (and-passed p ps) h = and-passed p (passed-snoc f ps h)
 

@@ -2,22 +2,19 @@
 -- The definition's count of implications at the top, which falls where the depth does not, never cuts a search short. Assumes nothing.
 use mathlib.Core.Path.{_≡_, refl, sym, ap, _∙_}
 use mathlib.Core.Bool.{true, false}
-use mathlib.Core.List.{List, [], _∷_, _++_, append-assoc}
+use mathlib.Core.List.{List, [], _∷_, _++_}
 use Prim.Native.Nat.{ℕ, zero, suc, _+_, _≤_, _<_}
 use native.Mathlib.Omega.{arith}
 use Rattle.logic.specs.Formula.{Formula, One, Bottom, Top, Zero, Atom, NegAtom, Tensor, Par, With, Plus, Lolli, OfCourse, WhyNot, negate}
 use Rattle.logic.specs.Sequent.{Sequent, _﹔_}
 use Rattle.logic.specs.Zone.{total}
-use Rattle.logic.specs.ZoneLaws.{total-at}
+use Rattle.logic.specs.ZoneLaws.{snoc, total-at}
 use Rattle.logic.specs.Key.{Key, sequent-key, contains}
 use Rattle.logic.specs.Limits.{no-limit, exceeds}
 use Rattle.logic.specs.Outcome.{Outcome, nothing, State, Search, answer, if_then_else_, _or-else_, visited, hit, with-failure, record-failure, made}
 use Rattle.logic.specs.Search.{Settings, unlimited, async-from, unless-empty, prove-async, entered, remembered, lolli-count, lollis, visit, prove-with-depth}
 
 module _ (settings : Settings) (deeper again again′ : Sequent → Search) (q : Sequent) (agree : (p : Sequent) → lollis (p .linear) < lollis (q .linear) → again p ≡ again′ p) where
-  snoc : {l : List Formula} (before : List Formula) (f : Formula) (after : List Formula) → l ≡ before ++ (f ∷ after) → l ≡ before ++ (f ∷ []) ++ after
-  snoc before f after e = e ∙ sym (append-assoc before (f ∷ []) after)
-
   async-agrees : (before after : List Formula) → q .linear ≡ before ++ after → async-from settings deeper again q before after ≡ async-from settings deeper again′ q before after
   unfolding async-from lollis
   async-agrees before [] e = refl

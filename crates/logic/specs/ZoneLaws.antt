@@ -1,13 +1,17 @@
--- Laws of totals over a zone: of an append, at a formula taken out, and of what a mask shares out. Assumes nothing.
-use mathlib.Core.Path.{_≡_, refl}
+-- Laws of a zone walked from the left, and of totals over it: of an append, at a formula taken out, and of what a mask shares out. Assumes nothing.
+use mathlib.Core.Path.{_≡_, refl, sym, _∙_}
 use mathlib.Core.Bool.{Bool, true, false, not}
-use mathlib.Core.List.{List, [], _∷_, _++_}
+use mathlib.Core.List.{List, [], _∷_, _++_, append-assoc}
 use Prim.Native.Nat.{ℕ, _+_, _/_, _%_}
 use lib.Dec.{eqb}
 use native.Mathlib.Omega.{arith}
 use Rattle.logic.specs.Formula.{Formula}
 use Rattle.logic.specs.Split.{left-of, right-of, keep}
 use Rattle.logic.specs.Zone.{total}
+
+-- one formula further
+pub snoc : {l : List Formula} (before : List Formula) (f : Formula) (after : List Formula) → l ≡ before ++ (f ∷ after) → l ≡ before ++ (f ∷ []) ++ after
+snoc before f after e = e ∙ sym (append-assoc before (f ∷ []) after)
 
 pub total-append : (w : Formula → ℕ) (xs ys : List Formula) → total w (xs ++ ys) ≡ total w xs + total w ys
 unfolding total

@@ -19,7 +19,8 @@ use Rattle.logic.specs.Sequent.{Sequent}
 use Rattle.logic.specs.Outcome as logic
 use Rattle.logic.specs.Outcome.{Search, if_then_else_}
 use Rattle.logic.specs.Search.{prove-focused}
-use Rattle.logic.specs.Built.{decomposable, Passed, none-yet, and-passed}
+use Rattle.logic.specs.Built.{decomposable, Passed}
+use Rattle.logic.specs.Found.{passed-snoc}
 use Rattle.zones.specs.declared.Zones.{Zones}
 use Rattle.zones.specs.Zones.{Fits, Made, remove, meant, linears, unrestricteds, pushed, without, without-unrestricted}
 use Rattle.zones.specs.ZonesLaws.{linears-length, unrestricteds-length, meant-made, meant-copied, meant-copied-two, within-made, within-unrestricted, remove-length}
@@ -64,10 +65,6 @@ pub unrestricted-here : (told : ℕ → Formula) {z : Zones} → Fits z → (i :
 unrestricted-here told {z} f i h = map-here told (unrestricteds z) i formula.One (omega (arith, unrestricteds-length f)) ∙ ap told (getD-take (z .«unrestricted_len») (z .unrestricted) i 0 h)
 
 -- the first decomposable formula
-passed-snoc : {before : List Formula} (g : Formula) → Passed before → decomposable g ≡ false → Passed (before ++ (g ∷ []))
-passed-snoc g none-yet h = and-passed h none-yet
-passed-snoc g (and-passed p ps) h = and-passed p (passed-snoc g ps h)
-
 abbrev pub plan-tag : Plan → ℕ
 plan-tag p = tagOf plan-type p
 

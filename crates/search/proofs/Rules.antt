@@ -19,6 +19,8 @@ use Rattle.logic.specs.Outcome as logic
 use Rattle.logic.specs.Outcome.{Search, made}
 use Rattle.logic.specs.Search.{from-one, from-two, async-from, lolli-count, lollis}
 use Rattle.logic.specs.Built.{decomposable}
+use Rattle.logic.specs.Conclusion.{spell-first}
+use Rattle.logic.specs.Concludes.{spell-at}
 use Rattle.zones.specs.declared.Zones.{Zones}
 use Rattle.zones.specs.Zones.{Fits, Made, remove, replace, linears, unrestricteds, without, pushed, pushed-unrestricted, replaced}
 use Rattle.zones.specs.ZonesLaws.{linears-length, unrestricteds-length, meant-made, meant-moved, meant-moved-two, meant-moved-over, within-made}
@@ -26,8 +28,8 @@ use Rattle.memory.specs.Meaning.{holds, told, held-count, Stands-in}
 use Rattle.memory.specs.Shapes.{Spelled, NoRoom}
 use Rattle.formula.specs.Answers.{coded}
 use Rattle.formula.specs.declared.Refusal.the-variants.{TooMany, HeldFull}
-use Rattle.expand.specs.Short.{word, spell-first, spelled, _by_, step}
-use Rattle.expand.specs.ShortLaws.{spell-at, plain-passed, plain-at, step-par, step-bottom, step-top, step-with, step-why-not}
+use Rattle.expand.specs.Short.{word, spelled, _by_, step}
+use Rattle.expand.specs.ShortLaws.{plain-passed, plain-at, step-par, step-bottom, step-top, step-with, step-why-not}
 use Rattle.expand.specs.InMemory as in-memory
 use Rattle.search.specs.declared.Prover.{Prover}
 use Rattle.search.specs.declared.counters.Counters.{Counters}

@@ -2,7 +2,7 @@
 -- Assumes nothing.
 use mathlib.Core.Path.{_≡_, refl, sym, ap, _∙_}
 use mathlib.Core.Bool.{Bool, true, false, not}
-use mathlib.Core.List.{List, [], _∷_, _++_, append-assoc, map}
+use mathlib.Core.List.{List, [], _∷_, _++_, append-assoc, map, map-append}
 use Prim.Native.Nat.{ℕ, zero, suc, _+_, _-_, _/_, _%_, _≤_, _<_}
 use native.Mathlib.Nat.{mod-lt, add-zero}
 use native.Mathlib.Omega.{arith}
@@ -142,10 +142,6 @@ part-right mask (f ∷ fs) =
 
 -- `map` commutes with the operations
 module _ {A B : Type 0} (f : A → B) where
-  pub map-append : (xs ys : List A) → map f (xs ++ ys) ≡ map f xs ++ map f ys
-  map-append [] ys = refl
-  map-append (x ∷ xs) ys = ap (λ (l : List B). f x ∷ l) (map-append xs ys)
-
   pub map-take : (n : ℕ) (xs : List A) → map f (take n xs) ≡ take n (map f xs)
   map-take zero [] = refl
   map-take zero (x ∷ xs) = refl

@@ -1,7 +1,8 @@
 use Prim.Native.Nat.{_≤_, _-_}
 use native.Mathlib.Omega.{arith}
 use Rattle.wire.specs.Write.{write-formulas}
-use Rattle.expand.specs.Writing.{Wrote, named}
+use Rattle.held.specs.Words.{named}
+use Rattle.expand.specs.Writing.{Wrote}
 use Rattle.expand.proofs.ByteSteps.{item-low, written-start, written-room, written-next, written-end, wrote-length}
 use Rattle.expand.proofs.writers.items_bytes.Statement.{statement}
 use Rattle.expand.proofs.writers.items_bytes.Tie as tie

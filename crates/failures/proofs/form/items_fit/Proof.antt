@@ -4,7 +4,8 @@ use native.Mathlib.Omega.{arith}
 use borrow.Author.Tests.{not-true, not-false}
 use borrow.Author.Needs.{needs}
 use Rattle.failures.specs.RecordsLaws.{listing-item}
-use Rattle.failures.proofs.Steps.{told, untold, Fitting, fitting-start, fitting-falls, fitting-step, fitting-end}
+use Rattle.held.proofs.RowSteps.{told, untold}
+use Rattle.failures.proofs.Steps.{Fitting, fitting-start, fitting-falls, fitting-step, fitting-end}
 use Rattle.failures.proofs.form.items_fit.Statement.{statement}
 use Rattle.failures.proofs.form.items_fit.Tie as tie
 

@@ -3,7 +3,8 @@ use Prim.Native.Nat.{_+_, _*_}
 use native.Mathlib.Omega.{arith}
 use borrow.Author.Tests.{not-true, not-false}
 use borrow.Author.Needs.{needs}
-use Rattle.failures.proofs.Steps.{told, untold, retold}
+use Rattle.held.proofs.RowSteps.{told, untold}
+use Rattle.failures.proofs.Steps.{retold}
 use Rattle.failures.proofs.form.record_fits.Statement.{statement}
 use Rattle.failures.proofs.form.record_fits.Tie as tie
 

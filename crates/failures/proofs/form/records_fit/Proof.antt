@@ -5,7 +5,7 @@ use borrow.Author.Count.{below-none, below-more}
 use borrow.Author.Tests.{not-true, not-false}
 use borrow.Author.Needs.{needs}
 use Rattle.failures.specs.Records.{Stands}
-use Rattle.failures.proofs.Steps.{told, untold}
+use Rattle.held.proofs.RowSteps.{told, untold}
 use Rattle.failures.proofs.form.records_fit.Statement.{statement}
 use Rattle.failures.proofs.form.records_fit.Tie as tie
 

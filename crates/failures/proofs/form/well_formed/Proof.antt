@@ -3,7 +3,8 @@ use native.Mathlib.Omega.{arith}
 use borrow.Author.Tests.{not-true, not-false}
 use borrow.Author.Needs.{needs}
 use Rattle.failures.specs.RecordsLaws.{standing-sized}
-use Rattle.failures.proofs.Steps.{told, untold, retold}
+use Rattle.held.proofs.RowSteps.{told, untold}
+use Rattle.failures.proofs.Steps.{retold}
 use Rattle.failures.proofs.form.well_formed.Statement.{statement}
 use Rattle.failures.proofs.form.well_formed.Tie as tie
 
