@@ -55,7 +55,7 @@ use Rattle.vakelumba.proofs.proved.asked as asked
 use Rattle.vakelumba.proofs.proved.asked.Symbol as asked-def
 use Rattle.vakelumba.proofs.proved.asked.Symbol.{name as #vakelumba·proved·asked}
 use Rattle.vakelumba.proofs.proved.asked.Met as asked-thm
-use Rattle.vakelumba.proofs.vk_prove_into.Key.{name as #vakelumba·vk-prove}
+use Rattle.vakelumba.proofs.vk_prove_into.Key.{name as #vakelumba·vk-prove-into}
 use Rattle.vakelumba.proofs.vk_prove_into as f
 use Rattle.vakelumba.proofs.vk_prove_into.Statement as stated
 use Rattle.vakelumba.proofs.vk_prove_into.Code as code
@@ -194,24 +194,24 @@ module _ {M : Type 1} (𝓤 : URA M) (H : Heap 𝓤) (A : Atoms 𝓤) (W : Given
         keep ! (0 ∷ 1 ∷ 2 ∷ 3 ∷ 9 ∷ 8 ∷ 7 ∷ 6 ∷ 4 ∷ []) $ by ! (exits r zs e lm lw lo (number-fits is)))))))))))))))))))))))))))))
 
 module _ {M : Type 1} (𝓤 : URA M) (H : Heap 𝓤) (A : Atoms 𝓤) (W : Given 𝓤 H A) (at-mem : Memory → SProp 𝓤) (run : Routine → Fun 𝓤) where
-  vk-prove-walks : (C : Calls 𝓤 H) (Λ : Loops 𝓤 H) → FmC 𝓤 H (W .laws) C → Triple 𝓤 (C #vakelumba·proved·asked) (Asks 𝓤 H A at-mem run) → Walks 𝓤 H A f.ended stayed (WpFn 𝓤 H C Λ code.function) (f.clauses 𝓤 H A at-mem run)
-  vk-prove-walks C Λ fm known = walked 𝓤 H A f.ended stayed (f.clauses 𝓤 H A at-mem run) (WpFn 𝓤 H C Λ code.function) (λ κs. (ptr-vals, (slice-vals, (uint-vals w64, (uint-vals w64, (bool-vals, (slice-vals, (slice-vals, (slice-vals, (ptr-vals, tt))))))))))
+  vk-prove-into-walks : (C : Calls 𝓤 H) (Λ : Loops 𝓤 H) → FmC 𝓤 H (W .laws) C → Triple 𝓤 (C #vakelumba·proved·asked) (Asks 𝓤 H A at-mem run) → Walks 𝓤 H A f.ended stayed (WpFn 𝓤 H C Λ code.function) (f.clauses 𝓤 H A at-mem run)
+  vk-prove-into-walks C Λ fm known = walked 𝓤 H A f.ended stayed (f.clauses 𝓤 H A at-mem run) (WpFn 𝓤 H C Λ code.function) (λ κs. (ptr-vals, (slice-vals, (uint-vals w64, (uint-vals w64, (bool-vals, (slice-vals, (slice-vals, (slice-vals, (ptr-vals, tt))))))))))
       (λ κs. (mut-tells (named 0) (κs .0) T.the-row, (shr-slice-tells (named 1) (κs .1 .0) u8, (uint-tells w64, (uint-tells w64, (bool-tells, (mut-slice-tells (named 2) (κs .1 .1 .0) u16, (mut-slice-tells (named 3) (κs .1 .1 .1 .0) u64, (mut-slice-tells (named 4) (κs .1 .1 .1 .1 .0) u8, (mut-tells (named 5) (κs .1 .1 .1 .1 .1 .0) usize, tt))))))))))
       (λ κs qs bounds a _ are. via 𝓤 _ (fst∗ 𝓤 _ (emp 𝓤)) (walk 𝓤 H A W at-mem run (κs .0) (κs .1 .0) (κs .1 .1 .0) (κs .1 .1 .1 .0) (κs .1 .1 .1 .1 .0) (κs .1 .1 .1 .1 .1 .0) (qs .0) (qs .1 .0) (qs .1 .1 .0) (qs .1 .1 .1 .0) (qs .1 .1 .1 .1 .0) (qs .1 .1 .1 .1 .1 .0)
       (a .0 .ptr .0) (a .0 .ptr .1) (a .0 .name) (a .0 .now) (a .1 .0) (a .1 .1 .0) (a .1 .1 .1 .0) (a .1 .1 .1 .1 .0) (a .1 .1 .1 .1 .1 .0) (a .1 .1 .1 .1 .1 .1 .0) (a .1 .1 .1 .1 .1 .1 .1 .0) (a .1 .1 .1 .1 .1 .1 .1 .1 .0) (are .1 .1 .0 .1) (are .1 .1 .1 .0 .1) C Λ fm known
       (are .1 .0) (are .1 .1 .1 .1 .1 .0 .0 .1) (are .1 .1 .1 .1 .1 .1 .0 .0 .1) (are .1 .1 .1 .1 .1 .1 .1 .0 .0 .1)))
 
-vk-prove-meets : {M : Type 1} (𝓤 : URA M) (H : Heap 𝓤) (A : Atoms 𝓤) → Given 𝓤 H A → (at-mem : Memory → SProp 𝓤) (run : Routine → Fun 𝓤) (𝓣 : Tables 𝓤 H) → Triple 𝓤 (𝓣 .C #vakelumba·proved·asked) (Asks 𝓤 H A at-mem run)
+vk-prove-into-meets : {M : Type 1} (𝓤 : URA M) (H : Heap 𝓤) (A : Atoms 𝓤) → Given 𝓤 H A → (at-mem : Memory → SProp 𝓤) (run : Routine → Fun 𝓤) (𝓣 : Tables 𝓤 H) → Triple 𝓤 (𝓣 .C #vakelumba·proved·asked) (Asks 𝓤 H A at-mem run)
     → Meets 𝓤 H A f.signature (WpFn 𝓤 H (𝓣 .C) (𝓣 .Λ) code.function) (f.spec 𝓤 H A at-mem run)
-vk-prove-meets 𝓤 H A W at-mem run 𝓣 known =
+vk-prove-into-meets 𝓤 H A W at-mem run 𝓣 known =
     walk-meets 𝓤 H A f.ended stayed W
     (goes-ref 𝓤 H A W 6 0 tt (plain (λ _. T.the-row)), (goes-none-slice 𝓤 H A W 6 (1 ∷ []) tt (plain (λ _. u8)) yes, (goes-none 𝓤 H A W 6 (λ _. usize) yes (λ κs x f. refl), (goes-none 𝓤 H A W 6 (λ _. usize) yes (λ κs x f. refl), (goes-none 𝓤 H A W 6 (λ _. bool) yes (λ κs x f. refl), (goes-gave-slice 𝓤 H A W 6 2 tt (plain (λ _. u16)), (goes-gave-slice 𝓤 H A W 6 3 tt (plain (λ _. u64)), (goes-gave-slice 𝓤 H A W 6 4 tt (plain (λ _. u8)), (goes-gave-ref 𝓤 H A W 6 5 tt (plain (λ _. usize)), tt))))))))) (f.clauses 𝓤 H A at-mem run)
-    (WpFn 𝓤 H (𝓣 .C) (𝓣 .Λ) code.function) (WpFn-mono 𝓤 H (W .laws) 𝓣 code.function) (vk-prove-walks 𝓤 H A W at-mem run (𝓣 .C) (𝓣 .Λ) (fmOf 𝓤 H (W .laws) 𝓣) known)
+    (WpFn 𝓤 H (𝓣 .C) (𝓣 .Λ) code.function) (WpFn-mono 𝓤 H (W .laws) 𝓣 code.function) (vk-prove-into-walks 𝓤 H A W at-mem run (𝓣 .C) (𝓣 .Λ) (fmOf 𝓤 H (W .laws) 𝓣) known)
 
-pub vk-prove-spec : {M : Type 1} → stated.statement M
+pub vk-prove-into-spec : {M : Type 1} → stated.statement M
 unfolding code.routine tablesOf
-vk-prove-spec 𝓤 H 𝓜 𝓖 𝓡 =
+vk-prove-into-spec 𝓤 H 𝓜 𝓖 𝓡 =
     entered 𝓤 H (tripleOf 𝓤 H (𝓖 .A) f.signature (f.spec 𝓤 H (𝓖 .A) (𝓜 .mem) (𝓡 .run)))
-    (tables 𝓤 H 𝓜 𝓡 code.env .C) (tables 𝓤 H 𝓜 𝓡 code.env .Λ) #vakelumba·vk-prove code.function (code.unfolded 𝓤 H 𝓜 𝓡)
-    (vk-prove-meets 𝓤 H (𝓖 .A) (givenOf 𝓤 H 𝓜 𝓖) (𝓜 .mem) (𝓡 .run) (tablesOf 𝓤 H 𝓜 (tables 𝓤 H 𝓜 𝓡 code.env))
+    (tables 𝓤 H 𝓜 𝓡 code.env .C) (tables 𝓤 H 𝓜 𝓡 code.env .Λ) #vakelumba·vk-prove-into code.function (code.unfolded 𝓤 H 𝓜 𝓡)
+    (vk-prove-into-meets 𝓤 H (𝓖 .A) (givenOf 𝓤 H 𝓜 𝓖) (𝓜 .mem) (𝓡 .run) (tablesOf 𝓤 H 𝓜 (tables 𝓤 H 𝓜 𝓡 code.env))
     (cited 𝓤 H (Asks 𝓤 H (𝓖 .A) (𝓜 .mem) (𝓡 .run)) 𝓜 𝓡 code.env #vakelumba·proved·asked asked-def.routine code.calls-vakelumba·proved·asked (asked-thm.met 𝓤 H 𝓜 𝓖 𝓡)))
