@@ -102,14 +102,14 @@ fn main() {
     let mut full = Full::after(&small());
     let rows = searches(rounds, &mut full);
     println!();
-    mean_of("costly families", &rows, |row| !row.name.starts_with("small"));
+    let costly = mean_of("costly families", &rows, |row| !row.name.starts_with("small"));
     mean_of("small, fresh memory", &rows, |row| row.name.starts_with("small") && !row.name.ends_with("memory"));
     mean_of("small, full memory", &rows, |row| row.name.ends_with("memory"));
-    let mean = mean_of("all", &rows, |_| true);
+    mean_of("all", &rows, |_| true);
     let least = rows.iter().min_by(|a, b| a.ratio().total_cmp(&b.ratio())).expect("some family");
     println!("least: {} ({:.4})", least.name, least.ratio());
     other_calls(rounds, &full);
     if let Some(file) = env::args().nth(2) {
-        std::fs::write(file, plot::svg(&rows, mean)).expect("the plot can be written");
+        std::fs::write(file, plot::svg(&rows, costly)).expect("the plot can be written");
     }
 }

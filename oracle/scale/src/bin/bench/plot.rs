@@ -49,13 +49,13 @@ fn bar(out: &mut String, y: f64, row: &Measured) {
     drawn.expect("a string takes all");
 }
 
-pub fn svg(rows: &[Measured], mean: f64) -> String {
+pub fn svg(rows: &[Measured], costly: f64) -> String {
     let bottom = TOP + STEP * rows.len() as f64;
     let (width, height) = (LEFT + WIDTH + 50.0, bottom + 12.0);
     let mut out = format!(
         "<svg xmlns=\"http://www.w3.org/2000/svg\" width=\"{width}\" height=\"{height}\" font-family=\"sans-serif\" \
          font-size=\"11\">\n<rect width=\"{width}\" height=\"{height}\" fill=\"white\"/>\n\
-         <text x=\"8\" y=\"16\" font-size=\"13\">Visits a second, library over Rust; geometric mean {mean:.2}</text>\n"
+         <text x=\"8\" y=\"16\" font-size=\"13\">Visits a second, library over Rust; geometric mean of the costly families {costly:.2}</text>\n"
     );
     for ratio in [0.001, 0.01, 0.1, 1.0, 1.5, 5.0, 10.0, 100.0] {
         let colour = if ratio == 1.5 || ratio == 5.0 { "#c05050" } else { "#999999" };
