@@ -6,14 +6,14 @@ use Rattle.std.proofs.Common.{sym, ap, ap₂, ◌∙◌, subst, arith, lit<, len
 use mathlib.Core.List.{List, [], ◌∷◌, ◌++◌, append_assoc}
 use Rattle.std.proofs.Math.Arith.{digits_div, digits_mod}
 use Rattle.logic.specs.Formula.{Formula, One, Bottom, Top, Zero, Atom, NegAtom, Tensor, Par, With, Plus, Lolli, OfCourse, WhyNot, height, size}
-use Rattle.logic.specs.FormulaLaws.{height_positive}
+use Rattle.logic.proofs.FormulaLaws.{height_positive}
 use Rattle.logic.specs.Answer.{Refusal, wrong_tag}
 use Rattle.wire.specs.Write.{two_bytes, write_formula}
 use Rattle.wire.specs.Read.{Read, got, refused, ◌then◌, entry, read_byte, read_two, Sign, unit, named, binary, unary, signs, read_parts, read_formula}
 use Rattle.wire.specs.Fits.{Bytes, NamesFit, ReadBack, Written, FormulaRefusal, cut_short, unknown_tag, too_tall}
 use Rattle.wire.specs.FitsLaws.{bytes_nil, bytes_cons, bytes_head, bytes_tail, bytes_append, bytes_left_over, bytes_two}
 use Rattle.wire.specs.Gives.{Gives, AllAt, ◌&◌}
-use Rattle.wire.specs.GivesLaws.{gives_got, gives_refused, gives_then, gives_entry, when_got, when_refused}
+use Rattle.wire.proofs.GivesLaws.{gives_got, gives_refused, gives_then, gives_entry, when_got, when_refused}
 
 -- a formula's bytes are as many as its size, at least one
 length_parts : (a b : List ℕ) {m n : ℕ} → length a ≡ m → length b ≡ n → suc (length (a ++ b)) ≡ suc (m + n)

@@ -3,13 +3,13 @@
 use Rattle.std.specs.Prelude.{◌≡◌, refl, Bool, true, false, not, List, [], ◌∷◌, ◌++◌, ℕ, suc, ◌+◌, ◌/◌, ◌%◌, ◌≤◌, ◌<◌, max, eqb, length}
 use Rattle.std.proofs.Common.{subst, arith, length-append}
 use Rattle.logic.specs.Formula.{Formula, One, Bottom, Top, Zero, Atom, NegAtom, Tensor, Par, With, Plus, Lolli, OfCourse, WhyNot, negate, height}
-use Rattle.logic.specs.FormulaLaws.{negate_height}
+use Rattle.logic.proofs.FormulaLaws.{negate_height}
 use Rattle.logic.specs.Sequent.{Sequent, ◌﹔◌, count}
 use Rattle.logic.specs.Split.{keep, left_of, right_of}
 use Rattle.logic.specs.Tree.{Rule, Tree, Trees, node, ∅, ◌▹◌, premise_count}
 use Rattle.logic.specs.Built.{Built, by_par, by_bottom, by_top, by_with, by_why_not, by_lolli, by_axiom, by_axiom⊥, by_one, by_tensor, by_plus_left, by_plus_right, by_of_course, by_dereliction, by_contraction, by_weakening}
 use Rattle.logic.specs.Concludes.{depth_bound}
-use Rattle.wire.specs.ZoneBytes.{length_write_zone}
+use Rattle.wire.proofs.ZoneBytes.{length_write_zone}
 use Rattle.wire.specs.Write.{write_formulas, write_zone, write_rule, write_node, write_nodes}
 use Rattle.wire.specs.Read.{highest_formula, highest_tree}
 use Rattle.wire.specs.Fits.{NamesFit, FormulaFits, FormulasFit, RuleFits, NodesFit, NodesFit*, NodesFew, NodesFew*, TreeFits}

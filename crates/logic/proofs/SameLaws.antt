@@ -4,7 +4,7 @@ use Rattle.std.proofs.Common.{sym, ◌∙◌, arith}
 use Rattle.std.proofs.Math.Path.{ap}
 use Rattle.logic.specs.Formula.{Formula, same}
 use Rattle.logic.specs.Zone.{total}
-use Rattle.logic.specs.ZoneLaws.{total_append}
+use Rattle.logic.proofs.ZoneLaws.{total_append}
 use Rattle.logic.specs.Legal.{as_number, times, Same}
 
 module _ {g : Formula → Formula} where

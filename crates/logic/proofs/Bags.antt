@@ -6,7 +6,7 @@ use Rattle.std.proofs.Math.Bool.{So}
 use Rattle.std.proofs.Math.Option.{Option, none, some}
 use Rattle.std.proofs.lemmas.List.{length-map}
 use Rattle.logic.specs.Formula.{Formula, same}
-use Rattle.logic.specs.FormulaLaws.{same_iff, same_self}
+use Rattle.logic.proofs.FormulaLaws.{same_iff, same_self}
 use Rattle.logic.specs.Zone.{total}
 use Rattle.logic.specs.Key.{without, same_bag}
 use Rattle.logic.specs.Legal.{as_number, times, plain, Same}

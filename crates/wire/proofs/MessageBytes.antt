@@ -7,9 +7,9 @@ use Rattle.wire.specs.Write.{two_bytes, write_formula, message}
 use Rattle.wire.specs.Read.{Read, got, refused, ◌then◌, read_byte, read_message, at_end, highest_formula, read_one}
 use Rattle.wire.specs.Fits.{Bytes, FormulaFits, MessageBack, OneBack, FormulaRefusal, cut_short, ReadRefusal, unknown_number, in_formula}
 use Rattle.wire.specs.FitsLaws.{bytes_cons, bytes_append, bytes_tail, bytes_left_over, bytes_two}
-use Rattle.wire.specs.FormulaBytes.{read_write, byte_gives, two_gives, formula_gives, read_write_two}
+use Rattle.wire.proofs.FormulaBytes.{read_write, byte_gives, two_gives, formula_gives, read_write_two}
 use Rattle.wire.specs.Gives.{Gives}
-use Rattle.wire.specs.GivesLaws.{gives_got, gives_then, gives_widen, gives_unless, gives_end, when_got, when_refused}
+use Rattle.wire.proofs.GivesLaws.{gives_got, gives_then, gives_widen, gives_unless, gives_end, when_got, when_refused}
 
 -- what a formula's bytes can refuse, a question's and a tree's can
 pub in_reading : {A : Type 0} {P : A → List ℕ → Type 0} {m : Read A} → Gives P FormulaRefusal m → Gives P ReadRefusal m

@@ -7,11 +7,11 @@ use Rattle.std.proofs.Math.Bool.{true, false, So, and-eq-true_iff}
 use Rattle.std.proofs.lemmas.Bool.{false≢true}
 use mathlib.Core.List.{List, [], ◌∷◌, ◌++◌}
 use Rattle.logic.specs.Formula.{Formula, One, Bottom, Top, Zero, Atom, NegAtom, Tensor, Par, With, Plus, Lolli, OfCourse, WhyNot, same, among, spell}
-use Rattle.logic.specs.FormulaLaws.{same_iff, same_self, spell_twice}
+use Rattle.logic.proofs.FormulaLaws.{same_iff, same_self, spell_twice}
 use Rattle.logic.specs.Zone.{total}
-use Rattle.logic.specs.ZoneLaws.{total_append}
+use Rattle.logic.proofs.ZoneLaws.{total_append}
 use Rattle.logic.specs.Legal.{as_number, times, plain, ◌≈◌, ◌≋◌}
-use Rattle.logic.specs.Bags.{counts_itself, same_bag_iff, same_map_iff}
+use Rattle.logic.proofs.Bags.{counts_itself, same_bag_iff, same_map_iff}
 use Rattle.logic.specs.Key.{same_bag}
 use Rattle.logic.specs.Verify.{any}
 use Rattle.logic.specs.VerifyLaws.{any_map, any_same, among_any}

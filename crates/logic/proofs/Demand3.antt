@@ -7,13 +7,13 @@ use Rattle.logic.specs.Tree.{Tree, depth, conclusion}
 use Rattle.logic.specs.Outcome.{Outcome, found, Memory}
 use Rattle.logic.specs.Search.{Settings, prove, ask}
 use Rattle.logic.specs.Built.{Built}
-use Rattle.logic.specs.Found.{Of, prove_builds, ask_builds}
+use Rattle.logic.proofs.Found.{Of, prove_builds, ask_builds}
 use Rattle.logic.specs.Conclusion.{concluded}
 use Rattle.logic.specs.Concludes.{concludes, depth_bound}
 use Rattle.logic.specs.Legal.{Legal}
-use Rattle.logic.specs.LegalFound.{legal}
+use Rattle.logic.proofs.LegalFound.{legal}
 use Rattle.logic.specs.Places.{Multiplicatives, Balanced}
-use Rattle.logic.specs.Balance.{balanced}
+use Rattle.logic.proofs.Balance.{balanced}
 
 pub record Good (limit : ℕ) (q : Sequent) (t : Tree) : Type 0 where
   pub steps_legal : Legal t

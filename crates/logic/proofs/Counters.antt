@@ -8,7 +8,7 @@ use Rattle.logic.specs.Held.{enter, enter_question}
 use Rattle.logic.specs.Limits.{exceeds}
 use Rattle.logic.specs.Outcome.{State, Memory, visited, hit}
 use Rattle.logic.specs.Search.{as_stated, prove, ask}
-use Rattle.logic.specs.Found.{Keeps, prove_meets, ask_meets}
+use Rattle.logic.proofs.Found.{Keeps, prove_meets, ask_meets}
 
 -- `slack` is 1 between the count of a visit and what follows it: there a hit still fits
 pub record Within (budget limit slack : ℕ) (s : State) : Type 0 where

@@ -8,7 +8,7 @@ use Prim.Native.Nat.{ℕ, zero, suc, ◌+◌, ◌≤◌, ◌<◌}
 use Rattle.logic.specs.Formula.{Formula, One, Bottom, Top, Zero, Atom, NegAtom, Tensor, Par, With, Plus, Lolli, OfCourse, WhyNot, negate}
 use Rattle.logic.specs.Sequent.{Sequent, ◌﹔◌}
 use Rattle.logic.specs.Zone.{total}
-use Rattle.logic.specs.ZoneLaws.{snoc, total_at}
+use Rattle.logic.proofs.ZoneLaws.{snoc, total_at}
 use Rattle.logic.specs.Key.{Key, sequent_key, contains}
 use Rattle.logic.specs.Limits.{no_limit, exceeds}
 use Rattle.logic.specs.Outcome.{Outcome, nothing, State, Search, answer, if◌then◌else◌, ◌or_else◌, visited, hit, with_failure, record_failure, made}

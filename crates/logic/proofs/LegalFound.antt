@@ -2,15 +2,15 @@
 use Rattle.std.specs.Prelude.{◌≡◌, refl, Bool, true, false, cond, List, [], ◌∷◌, ◌++◌, ℕ, ◌+◌}
 use Rattle.std.proofs.Common.{sym, ap, ◌∙◌, arith}
 use Rattle.logic.specs.Formula.{Formula, One, Bottom, Top, Atom, NegAtom, Tensor, OfCourse, WhyNot, same, spell}
-use Rattle.logic.specs.FormulaLaws.{spell_twice}
+use Rattle.logic.proofs.FormulaLaws.{spell_twice}
 use Rattle.logic.specs.Sequent.{Sequent}
 use Rattle.logic.specs.Tree.{Tree, conclusion, conclusions}
 use Rattle.logic.specs.Zone.{total}
-use Rattle.logic.specs.ZoneLaws.{total_append, total_shared}
+use Rattle.logic.proofs.ZoneLaws.{total_append, total_shared}
 use Rattle.logic.specs.Split.{left_of, right_of}
 use Rattle.logic.specs.Conclusion.{spell_first}
 use Rattle.logic.specs.Concludes.{concludes}
-use Rattle.logic.specs.SameLaws.{same_trans, same_of, same_sym, swap_ends, to_front, under}
+use Rattle.logic.proofs.SameLaws.{same_trans, same_of, same_sym, swap_ends, to_front, under}
 use Rattle.logic.specs.Legal.{
   as_number,
   times,

@@ -4,12 +4,12 @@ use Rattle.std.proofs.Common.{sym, ap, ◌∙◌, eqb-true, arith}
 use Rattle.std.proofs.lemmas.Bool.{false≢true, eqb-false}
 use mathlib.Core.List.{List, [], ◌∷◌, ◌++◌, nil≢cons}
 use Rattle.logic.specs.Formula.{Formula, One, Bottom, Top, Zero, Atom, NegAtom, Tensor, Par, With, Plus, Lolli, OfCourse, WhyNot, negate, same, among}
-use Rattle.logic.specs.FormulaLaws.{same_iff}
+use Rattle.logic.proofs.FormulaLaws.{same_iff}
 use Rattle.logic.specs.Sequent.{Sequent}
 use Rattle.logic.specs.Tree.{Tree}
 use Rattle.logic.specs.Split.{left_of, right_of}
 use Rattle.logic.specs.Zone.{total}
-use Rattle.logic.specs.ZoneLaws.{total_append, total_at, total_shared}
+use Rattle.logic.proofs.ZoneLaws.{total_append, total_at, total_shared}
 use Rattle.logic.specs.Legal.{as_number}
 use Rattle.logic.specs.Places.{
   plain_places,

@@ -13,8 +13,8 @@ use Rattle.logic.specs.Legal.{Step, Legal}
 use Rattle.logic.specs.Strict.{legal_step, or_fault, strict_fault, verify_strict}
 use Rattle.logic.specs.Shaped.{Shaped, par_shown, ParsShown}
 use Rattle.logic.specs.EverywhereLaws.{everywhere_iff, everywhere_both, legal_everywhere, verify_from_iff}
-use Rattle.logic.specs.StepLaws.{legal_step_iff}
-use Rattle.logic.specs.ShapeLaws.{step_shape_iff, shape_fault_not_15}
+use Rattle.logic.proofs.StepLaws.{legal_step_iff}
+use Rattle.logic.proofs.ShapeLaws.{step_shape_iff, shape_fault_not_15}
 
 -- At a node. The second test is `need b context_mismatch none`
 second_none : (o : Option Fault) (b : Bool) → (or_fault o (need b context_mismatch none) ≡ none) ↔ ((o ≡ none) × So b)

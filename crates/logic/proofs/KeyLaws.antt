@@ -8,17 +8,17 @@ use mathlib.Core.List.Memᴰ
 use mathlib.Core.List.{List, [], ◌∷◌, ◌++◌, map, map-append, List-discrete, Memᴰ}
 use Rattle.std.proofs.Math.Option.{Option, none, some}
 use Rattle.logic.specs.Formula.{Formula, WhyNot, same, name_dec, is_yes}
-use Rattle.logic.specs.FormulaLaws.{same_iff, different_same}
+use Rattle.logic.proofs.FormulaLaws.{same_iff, different_same}
 use Rattle.logic.specs.Text.{printed, pretty}
-use Rattle.logic.specs.TextLaws.{pretty_injective}
+use Rattle.logic.proofs.TextLaws.{pretty_injective}
 use Rattle.logic.specs.Sequent.{Sequent, ◌﹔◌}
 use Rattle.logic.specs.Zone.{total}
-use Rattle.logic.specs.ZoneLaws.{total_append}
+use Rattle.logic.proofs.ZoneLaws.{total_append}
 use Rattle.logic.specs.Key.{sequent_key, string_key, without, same_bag, contains, insert, sort}
 use Rattle.logic.specs.Sorted.{text_total}
 use Rattle.logic.specs.SortLaws.{insert_insert, sort_total}
 use Rattle.logic.specs.Legal.{as_number, times, plain, Same}
-use Rattle.logic.specs.Bags.{same_bag_iff}
+use Rattle.logic.proofs.Bags.{same_bag_iff}
 
 pub same_bag_self : (xs : List Formula) → So (same_bag xs xs)
 same_bag_self xs = (same_bag_iff xs xs).1 record { each = λ f. refl }

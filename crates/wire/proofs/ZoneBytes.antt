@@ -5,14 +5,14 @@ use Rattle.std.proofs.Math.Seq.{slice, take-append_seam, drop-append_seam}
 use Rattle.std.proofs.lemmas.List.{drop-append-le}
 use Rattle.logic.specs.Formula.{Formula, size}
 use Rattle.logic.specs.Answer.{wrong_length}
-use Rattle.logic.specs.FormulaLaws.{size_positive}
+use Rattle.logic.proofs.FormulaLaws.{size_positive}
 use Rattle.wire.specs.Write.{two_bytes, write_formula, write_formulas, write_zone}
 use Rattle.wire.specs.Read.{got, ◌then◌, read_formula, highest_formula, read_formulas, read_all, read_bytes, zone_bytes, read_zone}
 use Rattle.wire.specs.Fits.{Bytes, FormulasFit, ZoneFits, FormulasBack, ZoneBack, Framed, FormulaRefusal, cut_short}
 use Rattle.wire.specs.FitsLaws.{bytes_nil, bytes_append, bytes_left, bytes_left_over, bytes_two}
-use Rattle.wire.specs.FormulaBytes.{length_write, read_write, write_bytes, read_write_two, two_gives, formula_gives}
+use Rattle.wire.proofs.FormulaBytes.{length_write, read_write, write_bytes, read_write_two, two_gives, formula_gives}
 use Rattle.wire.specs.Gives.{Gives}
-use Rattle.wire.specs.GivesLaws.{gives_got, gives_refused, gives_then, gives_map, gives_unless}
+use Rattle.wire.proofs.GivesLaws.{gives_got, gives_refused, gives_then, gives_map, gives_unless}
 
 -- formulas one after another
 pub write_formulas_bytes : (fs : List Formula) → FormulasFit fs → Bytes (write_formulas fs)

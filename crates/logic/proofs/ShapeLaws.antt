@@ -6,7 +6,7 @@ use Rattle.std.proofs.Math.Bool.{So}
 use Rattle.std.proofs.lemmas.Bool.{false≢true}
 use Rattle.std.proofs.Math.Option.{Option, none, some, none-ne-some, some-ne-none, some-injective}
 use Rattle.logic.specs.Formula.{Formula, Bottom, Top, Tensor, Par, With, Plus, OfCourse, same, among, spell}
-use Rattle.logic.specs.FormulaLaws.{same_self}
+use Rattle.logic.proofs.FormulaLaws.{same_self}
 use Rattle.logic.specs.Parts.{left_part, right_part, is_binary, is_unary}
 use Rattle.logic.specs.Sequent.{Sequent}
 use Rattle.logic.specs.Tree.{
@@ -52,8 +52,8 @@ use Rattle.logic.specs.Legal.{
 }
 use Rattle.logic.specs.Shaped.{par_shown}
 use Rattle.logic.specs.Principal.{Unspelled}
-use Rattle.logic.specs.PrincipalLaws.{unspelled_any_iff, unspelled_among_iff}
-use Rattle.logic.specs.LeafLaws.{one_shaped_iff, axiom_shaped_iff, among_top_iff}
+use Rattle.logic.proofs.PrincipalLaws.{unspelled_any_iff, unspelled_among_iff}
+use Rattle.logic.proofs.LeafLaws.{one_shaped_iff, axiom_shaped_iff, among_top_iff}
 
 -- a formula of the zone passes the test
 shown : (test : Formula → Bool) → Unspelled test → {x : Formula} {xs Γ : List Formula} → spell x ≡ x → So (test x) → xs ≈ x ∷ Γ → So (any test xs)

@@ -8,7 +8,7 @@ use Prim.Native.Nat.{ℕ, zero, suc, ◌+◌, ◌*◌, ◌/◌, ◌%◌, ◌≤�
 use Rattle.std.proofs.lemmas.Bool.{eqb-false}
 use Rattle.logic.specs.Formula.{Formula, One, Bottom, Top, Zero, Atom, NegAtom, Tensor, Par, With, Plus, Lolli, OfCourse, WhyNot, height}
 use Rattle.logic.specs.Text.{Signs, unicode, ascii, digits_within, digits, infix_text, printed, pretty, pretty_ascii}
-use Rattle.logic.specs.FormulaLaws.{height_positive}
+use Rattle.logic.proofs.FormulaLaws.{height_positive}
 use Rattle.logic.specs.TextRead.{after, read_one_of, units, connectives, read_digits, name_or_negation, read_sign, read_infix, read_part, read_other, read_formula, Ends, Readable}
 
 after_prefix : (prefix rest : List ℕ) → after prefix (prefix ++ rest) ≡ some rest

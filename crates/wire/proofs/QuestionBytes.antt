@@ -8,11 +8,11 @@ use Rattle.wire.specs.Write.{write_formulas, write_zone, message, write_body, wr
 use Rattle.wire.specs.Read.{got, refused, ◌then◌, unless, entry, read_byte, zone_bytes, at_end, read_all, most_formulas, kinds, read_question}
 use Rattle.wire.specs.Fits.{Bytes, ZonesFit, first_zone, second_zone, QuestionFits, QuestionBack, MessageBack, FormulasBack, ZoneBack, KindWritten, cut_short, ReadRefusal, unknown_number, in_formula, overfull}
 use Rattle.wire.specs.FitsLaws.{bytes_cons, bytes_append, bytes_tail}
-use Rattle.wire.specs.FormulaBytes.{byte_gives}
-use Rattle.wire.specs.ZoneBytes.{read_write_all, read_write_zone_bytes, zone_bytes_give, all_gives, framed_zone, framed_rest, framed_back, write_zone_bytes}
-use Rattle.wire.specs.MessageBytes.{in_reading, read_write_message, message_bytes, message_gives, body_bytes}
+use Rattle.wire.proofs.FormulaBytes.{byte_gives}
+use Rattle.wire.proofs.ZoneBytes.{read_write_all, read_write_zone_bytes, zone_bytes_give, all_gives, framed_zone, framed_rest, framed_back, write_zone_bytes}
+use Rattle.wire.proofs.MessageBytes.{in_reading, read_write_message, message_bytes, message_gives, body_bytes}
 use Rattle.wire.specs.Gives.{Gives, AllAt, ◌&◌}
-use Rattle.wire.specs.GivesLaws.{gives_got, gives_refused, gives_then, gives_entry, gives_unless, gives_end, when_got, when_refused}
+use Rattle.wire.proofs.GivesLaws.{gives_got, gives_refused, gives_then, gives_entry, gives_unless, gives_end, when_got, when_refused}
 
 -- both zones, after the kind
 read_write_zones : (make : List Formula → List Formula → Question) (Γ Δ : List Formula) → ZonesFit Γ Δ

@@ -5,7 +5,7 @@ use Rattle.std.proofs.Common.{sym, ap, ◌∙◌, arith, below_none, below_more,
 use Prim.Native.Nat.{ℕ, suc, ◌+◌, ◌≤◌, ◌<◌, max}
 use Rattle.std.proofs.lemmas.Bool.{eqb-false}
 use Rattle.logic.specs.Formula.{Formula, One, Bottom, Top, Zero, Atom, NegAtom, Tensor, Par, With, Plus, Lolli, OfCourse, WhyNot, same, negate, height, size}
-use Rattle.logic.specs.FormulaLaws.{same_iff, different_same}
+use Rattle.logic.proofs.FormulaLaws.{same_iff, different_same}
 use Rattle.logic.specs.Parts.{tag_of, name_of, left_part, right_part, signs, make, signed, negated_tag}
 
 -- ---- what holds of each tag of a kind: units, names, the two together, signs over two parts, signs over one part

@@ -6,15 +6,15 @@ use Rattle.std.proofs.lemmas.Bool.{false≢true}
 use Rattle.std.proofs.Math.Bool.{So, and-eq-true_iff}
 use Rattle.std.proofs.Math.Nat.{suc_inj}
 use Rattle.logic.specs.Formula.{Formula, One, Bottom, Top, Zero, Atom, NegAtom, Tensor, Par, With, Plus, Lolli, OfCourse, WhyNot, negate, same, among, spell}
-use Rattle.logic.specs.FormulaLaws.{same_iff, same_self}
+use Rattle.logic.proofs.FormulaLaws.{same_iff, same_self}
 use Rattle.logic.specs.Parts.{is_literal}
 use Rattle.logic.specs.Zone.{total}
-use Rattle.logic.specs.SameLaws.{same_of}
+use Rattle.logic.proofs.SameLaws.{same_of}
 use Rattle.logic.specs.Legal.{as_number, times, ◌≈◌}
-use Rattle.logic.specs.Bags.{counts_itself, same_length}
+use Rattle.logic.proofs.Bags.{counts_itself, same_length}
 use Rattle.logic.specs.Verify.{axiom_shaped, one_shaped}
 use Rattle.logic.specs.Principal.{Stands, Unspelled}
-use Rattle.logic.specs.PrincipalLaws.{test_spell, unspelled_among_iff}
+use Rattle.logic.proofs.PrincipalLaws.{test_spell, unspelled_among_iff}
 
 -- neither a par nor an implication
 one_unspelled : Unspelled (same One)

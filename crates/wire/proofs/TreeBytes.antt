@@ -10,11 +10,11 @@ use Rattle.wire.specs.Write.{write_zone, message, write_rule, write_node, write_
 use Rattle.wire.specs.Read.{Read, got, refused, ◌then◌, entry, read_byte, at_end, highest_formula, most_formulas, RuleForm, bare, with_formula, with_number, rule_forms, read_argument, read_sequent, read_premises, read_node, highest_tree, read_tree}
 use Rattle.wire.specs.Fits.{Bytes, ZonesFit, RuleFits, NodesFit, NodesFit*, TreeFits, TreeBack, NodeBack, PremisesBack, RuleBack, SequentBack, RuleWritten, cut_short, too_tall, ReadRefusal, unknown_number, in_formula, overfull}
 use Rattle.wire.specs.FitsLaws.{bytes_nil, bytes_cons, bytes_append, bytes_head, bytes_tail, bytes_left_over, bytes_two}
-use Rattle.wire.specs.FormulaBytes.{read_write, write_bytes, read_write_two, byte_gives, two_gives, formula_gives}
-use Rattle.wire.specs.ZoneBytes.{read_write_zone, zone_gives, write_zone_bytes}
-use Rattle.wire.specs.MessageBytes.{in_reading, read_write_message, message_bytes, message_gives, body_bytes}
+use Rattle.wire.proofs.FormulaBytes.{read_write, write_bytes, read_write_two, byte_gives, two_gives, formula_gives}
+use Rattle.wire.proofs.ZoneBytes.{read_write_zone, zone_gives, write_zone_bytes}
+use Rattle.wire.proofs.MessageBytes.{in_reading, read_write_message, message_bytes, message_gives, body_bytes}
 use Rattle.wire.specs.Gives.{Gives, AllAt, ◌&◌}
-use Rattle.wire.specs.GivesLaws.{gives_got, gives_refused, gives_then, gives_entry, gives_unless, gives_end, when_got, when_refused}
+use Rattle.wire.proofs.GivesLaws.{gives_got, gives_refused, gives_then, gives_entry, gives_unless, gives_end, when_got, when_refused}
 
 -- a rule with its argument
 read_write_rule : (r : Rule) (rest : List ℕ) (k : Rule → List ℕ → Read Tree) → RuleFits r

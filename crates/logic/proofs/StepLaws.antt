@@ -49,11 +49,11 @@ use Rattle.logic.specs.Legal.{
   step_dereliction,
   step_cut,
 }
-use Rattle.logic.specs.Bags.{same_bag_iff}
+use Rattle.logic.proofs.Bags.{same_bag_iff}
 use Rattle.logic.specs.Strict.{in_linear, any_binary, any_unary, of_none, of_one, of_two, legal_step}
 use Rattle.logic.specs.Principal.{Sign, over_two, two_parts, Principal, Shared}
-use Rattle.logic.specs.PrincipalLaws.{both_iff, linear_same_iff, in_linear_iff, principal_iff, replaced_iff, shared_iff, rest_same, taken_iff}
-use Rattle.logic.specs.LeafLaws.{one_shaped_iff, axiom_shaped_iff, among_top_iff}
+use Rattle.logic.proofs.PrincipalLaws.{both_iff, linear_same_iff, in_linear_iff, principal_iff, replaced_iff, shared_iff, rest_same, taken_iff}
+use Rattle.logic.proofs.LeafLaws.{one_shaped_iff, axiom_shaped_iff, among_top_iff}
 
 -- the signs
 par_sign : Sign (over_two Par) two_parts

@@ -3,22 +3,22 @@ use Rattle.std.specs.Prelude.{◌≡◌, refl, List, ◌∷◌, ◌++◌, ℕ, s
 use Rattle.std.proofs.Common.{subst}
 use Rattle.std.proofs.Math.Bool.{So}
 use Rattle.logic.specs.Formula.{Formula, Par}
-use Rattle.logic.specs.FormulaLaws.{same_self}
+use Rattle.logic.proofs.FormulaLaws.{same_self}
 use Rattle.logic.specs.Parts.{left_part, right_part, is_binary}
 use Rattle.logic.specs.Sequent.{Sequent, Question, to_one_sided}
 use Rattle.logic.specs.Tree.{Tree}
 use Rattle.logic.specs.Zone.{total}
-use Rattle.logic.specs.ZoneLaws.{total_at}
+use Rattle.logic.proofs.ZoneLaws.{total_at}
 use Rattle.logic.specs.Legal.{plain}
-use Rattle.logic.specs.LegalFound.{legal}
+use Rattle.logic.proofs.LegalFound.{legal}
 use Rattle.logic.specs.Outcome.{found, Memory}
 use Rattle.logic.specs.Search.{Settings, prove, ask}
-use Rattle.logic.specs.Found.{Of, prove_builds, ask_builds}
+use Rattle.logic.proofs.Found.{Of, prove_builds, ask_builds}
 use Rattle.logic.specs.Verify.{any, accepted, verify}
 use Rattle.logic.specs.Strict.{verify_strict}
 use Rattle.logic.specs.Shaped.{par_shown, ParsShown}
-use Rattle.logic.specs.PrincipalLaws.{any_iff}
-use Rattle.logic.specs.StrictLaws.{strict_accepts_iff, strict_accepts_legal_iff}
+use Rattle.logic.proofs.PrincipalLaws.{any_iff}
+use Rattle.logic.proofs.StrictLaws.{strict_accepts_iff, strict_accepts_legal_iff}
 use Rattle.logic.specs.Built.{
   Built,
   by_par,
