@@ -3,6 +3,7 @@ use Rattle.std.specs.Prelude.{◌≡◌, refl, List, [], ◌∷◌, ◌++◌, �
 use Rattle.std.proofs.Common.{sym, ap, subst, ◌∙◌, arith, add-one, ne_eqb, length-set}
 use Rattle.std.proofs.lemmas.List.Edits.{sets}
 use Rattle.std.proofs.Math.Seq.{length-sets}
+use Rattle.logic.specs.Formula as of
 use Rattle.logic.specs.Formula.{Formula, negate, desugar, desugar_negation, size}
 use Rattle.logic.proofs.FormulaLaws.{negate_size, desugar_size, desugar_negation_size}
 use Rattle.wire.specs.Write.{write_formula, two_bytes}
@@ -40,7 +41,7 @@ Turned t (unary make) = (a : Formula) (how : How) → write_formula (rewritten h
 
 signs_turned : AllAt Turned signs
 unfolding write_formula turned_of left_of other_way negate desugar desugar_negation
-signs_turned = (λ how. elim how [ Copy ↦ refl | Negate ↦ refl | Spell ↦ refl | SpellNegated ↦ refl ], (λ how. elim how [ Copy ↦ refl | Negate ↦ refl | Spell ↦ refl | SpellNegated ↦ refl ], (λ how. elim how [ Copy ↦ refl | Negate ↦ refl | Spell ↦ refl | SpellNegated ↦ refl ], (λ how. elim how [ Copy ↦ refl | Negate ↦ refl | Spell ↦ refl | SpellNegated ↦ refl ], (λ n how. elim how [ Copy ↦ refl | Negate ↦ refl | Spell ↦ refl | SpellNegated ↦ refl ], (λ n how. elim how [ Copy ↦ refl | Negate ↦ refl | Spell ↦ refl | SpellNegated ↦ refl ], (λ a b how. elim how [ Copy ↦ refl | Negate ↦ refl | Spell ↦ refl | SpellNegated ↦ refl ], (λ a b how. elim how [ Copy ↦ refl | Negate ↦ refl | Spell ↦ refl | SpellNegated ↦ refl ], (λ a b how. elim how [ Copy ↦ refl | Negate ↦ refl | Spell ↦ refl | SpellNegated ↦ refl ], (λ a b how. elim how [ Copy ↦ refl | Negate ↦ refl | Spell ↦ refl | SpellNegated ↦ refl ], (λ a b how. elim how [ Copy ↦ refl | Negate ↦ refl | Spell ↦ refl | SpellNegated ↦ refl ], (λ a how. elim how [ Copy ↦ refl | Negate ↦ refl | Spell ↦ refl | SpellNegated ↦ refl ], (λ a how. elim how [ Copy ↦ refl | Negate ↦ refl | Spell ↦ refl | SpellNegated ↦ refl ], tt)))))))))))))
+signs_turned = (λ how. elim how as (λ k. write_formula (rewritten k of.One) ≡ turned_of 0 k ∷ []) [ Copy ↦ refl | Negate ↦ refl | Spell ↦ refl | SpellNegated ↦ refl ], (λ how. elim how as (λ k. write_formula (rewritten k of.Bottom) ≡ turned_of 1 k ∷ []) [ Copy ↦ refl | Negate ↦ refl | Spell ↦ refl | SpellNegated ↦ refl ], (λ how. elim how as (λ k. write_formula (rewritten k of.Top) ≡ turned_of 2 k ∷ []) [ Copy ↦ refl | Negate ↦ refl | Spell ↦ refl | SpellNegated ↦ refl ], (λ how. elim how as (λ k. write_formula (rewritten k of.Zero) ≡ turned_of 3 k ∷ []) [ Copy ↦ refl | Negate ↦ refl | Spell ↦ refl | SpellNegated ↦ refl ], (λ n how. elim how as (λ k. write_formula (rewritten k (of.Atom n)) ≡ turned_of 4 k ∷ two_bytes n) [ Copy ↦ refl | Negate ↦ refl | Spell ↦ refl | SpellNegated ↦ refl ], (λ n how. elim how as (λ k. write_formula (rewritten k (of.NegAtom n)) ≡ turned_of 5 k ∷ two_bytes n) [ Copy ↦ refl | Negate ↦ refl | Spell ↦ refl | SpellNegated ↦ refl ], (λ a b how. elim how as (λ k. write_formula (rewritten k (of.Tensor a b)) ≡ turned_of 6 k ∷ (write_formula (rewritten (left_of 6 k) a) ++ write_formula (rewritten k b))) [ Copy ↦ refl | Negate ↦ refl | Spell ↦ refl | SpellNegated ↦ refl ], (λ a b how. elim how as (λ k. write_formula (rewritten k (of.Par a b)) ≡ turned_of 7 k ∷ (write_formula (rewritten (left_of 7 k) a) ++ write_formula (rewritten k b))) [ Copy ↦ refl | Negate ↦ refl | Spell ↦ refl | SpellNegated ↦ refl ], (λ a b how. elim how as (λ k. write_formula (rewritten k (of.With a b)) ≡ turned_of 8 k ∷ (write_formula (rewritten (left_of 8 k) a) ++ write_formula (rewritten k b))) [ Copy ↦ refl | Negate ↦ refl | Spell ↦ refl | SpellNegated ↦ refl ], (λ a b how. elim how as (λ k. write_formula (rewritten k (of.Plus a b)) ≡ turned_of 9 k ∷ (write_formula (rewritten (left_of 9 k) a) ++ write_formula (rewritten k b))) [ Copy ↦ refl | Negate ↦ refl | Spell ↦ refl | SpellNegated ↦ refl ], (λ a b how. elim how as (λ k. write_formula (rewritten k (of.Lolli a b)) ≡ turned_of 10 k ∷ (write_formula (rewritten (left_of 10 k) a) ++ write_formula (rewritten k b))) [ Copy ↦ refl | Negate ↦ refl | Spell ↦ refl | SpellNegated ↦ refl ], (λ a how. elim how as (λ k. write_formula (rewritten k (of.OfCourse a)) ≡ turned_of 11 k ∷ write_formula (rewritten k a)) [ Copy ↦ refl | Negate ↦ refl | Spell ↦ refl | SpellNegated ↦ refl ], (λ a how. elim how as (λ k. write_formula (rewritten k (of.WhyNot a)) ≡ turned_of 12 k ∷ write_formula (rewritten k a)) [ Copy ↦ refl | Negate ↦ refl | Spell ↦ refl | SpellNegated ↦ refl ], tt)))))))))))))
 
 turned_at : (t : ℕ) (x : Sign) → At signs t x → Turned t x
 turned_at t x h = all_at Turned signs signs_turned t x h
