@@ -44,7 +44,7 @@ use Rattle.logic.specs.Tree.{
 use Rattle.wire.specs.Write.{write_zone, write_rule, write_node, write_nodes}
 use Rattle.wire.proofs.ZoneBytes.{length_write_zone}
 use Rattle.wire.specs.Fits.{NodesFit, NodesFit*}
-use Rattle.formula.specs.RewritingLaws.{sets_append}
+use Rattle.formula.proofs.RewritingLaws.{sets_append}
 use Rattle.tree.specs.Stands.{Stands}
 use Rattle.tree.specs.StandsLaws.{stands_left, stands_right}
 use Rattle.tree.specs.Places.{rule_number, NodeFound}

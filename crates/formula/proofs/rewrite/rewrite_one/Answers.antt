@@ -1,7 +1,7 @@
 use mathlib.Core.Path.{sym, ◌∙◌}
 use borrow.Author.Rules.{rules}
-use Rattle.formula.specs.CallsLaws.{whole, writes_refused}
-use Rattle.formula.specs.RewritingLaws.{rewrite_ready, rewrite_short, rewrite_done}
+use Rattle.formula.proofs.CallsLaws.{whole, writes_refused}
+use Rattle.formula.proofs.RewritingLaws.{rewrite_ready, rewrite_short, rewrite_done}
 use Rattle.formula.proofs.rewrite.rewrite_one.Goals as goal
 
 pub returns-then-out-n : goal.returns-then-out-n

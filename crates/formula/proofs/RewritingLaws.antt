@@ -14,7 +14,7 @@ use Rattle.formula.specs.Reading.{form_of}
 use Rattle.formula.specs.Signs.{At, Stands, UnitAt, NamedAt, BinaryAt, UnaryAt}
 use Rattle.formula.specs.SignsLaws.{all_at, shaped, starts_inside, tag_below}
 use Rattle.formula.specs.Calls.{Writes}
-use Rattle.formula.specs.CallsLaws.{Whole, whole_stands, writes_short, writes_bytes}
+use Rattle.formula.proofs.CallsLaws.{Whole, whole_stands, writes_short, writes_bytes}
 use Rattle.formula.specs.declared.Refusal.TheVariants.{OutputShort}
 use Rattle.formula.specs.declared.Written.TheVariants.{Bytes, Refused}
 use Rattle.formula.specs.Rewriting.{rewritten, turned_of, other_way, left_of, Ready, Rewritten}
