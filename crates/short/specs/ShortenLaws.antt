@@ -265,6 +265,8 @@ mutual
 
   built_shorten_all : (limits : Limits) (ts : Trees) (n : ℕ) (qs : List Sequent) → BuiltAll n qs ts → ShortenAll limits ts qs
   built_shorten_all limits ∅ n [] none_left = record { short_trees = □; makes = answer_makes □ }
+  built_shorten_all limits ∅ n (q ∷ qs) x3 = elim x3 [ ]
+  built_shorten_all limits (t ▹ ts) n [] x4 = elim x4 [ ]
   built_shorten_all limits (t ▹ ts) n (q ∷ qs) (one_more d ds) =
       let s = built_shorten limits t n q d in
       let u = built_shorten_all limits ts n qs ds in
