@@ -16,7 +16,7 @@ use Rattle.short.specs.Short.{Short, short, Shorts, □, ◌▸◌}
 use Rattle.short.specs.Making.{made, mismatch, Making, answer, ◌and_then◌, unless, made_of, spelt, few_each}
 use Rattle.short.specs.Shortening.{grown, expand, expand_all}
 use Rattle.short.specs.Taken.{BuiltAll, none_left, one_more}
-use Rattle.short.specs.StepsLaws.{step_builds, built_more, built_all_more}
+use Rattle.short.proofs.StepsLaws.{step_builds, built_more, built_all_more}
 use Rattle.short.specs.Few.{Few, Few*, FewEach, few_more}
 use Rattle.short.specs.Closed.{Stay, Closed}
 use Rattle.short.specs.EnteredLaws.{enter_stays, enter_closed, stay_trans}

@@ -11,10 +11,10 @@ use Rattle.short.specs.Short.{Short, short, Shorts, □, ◌▸◌, height, heig
 use Rattle.short.specs.Making.{made}
 use Rattle.short.specs.Shortening.{expand, expand_all, shorten, shorten_all}
 use Rattle.short.specs.MakingLaws.{result_of, with_held, made_mismatch, made_same, paired_through}
-use Rattle.short.specs.ExpandLaws.{grown_stages}
-use Rattle.short.specs.LeastLaws.{least_apart}
+use Rattle.short.proofs.ExpandLaws.{grown_stages}
+use Rattle.short.proofs.LeastLaws.{least_apart}
 use Rattle.short.specs.LeastTree.{LeastTree, LeastTrees}
-use Rattle.short.specs.ShortenLaws.{shrunk_stages}
+use Rattle.short.proofs.ShortenLaws.{shrunk_stages}
 
 -- ---- height
 

@@ -38,7 +38,7 @@ use Rattle.short.specs.Steps.{is_sync, is_focus, is_pair, may_take, premises_of}
 use Rattle.short.specs.Making.{made, mismatch}
 use Rattle.short.specs.Shortening.{same_zone, same_sequent, same_sequents, fits, first_from, is_some, least_mask, least_place, with_mask, at_place, least}
 use Rattle.short.specs.Least.{Least, First}
-use Rattle.short.specs.StepsLaws.{is_first_placed, is_sync_passed, is_focus_placed, is_focus_tells}
+use Rattle.short.proofs.StepsLaws.{is_first_placed, is_sync_passed, is_focus_placed, is_focus_tells}
 
 -- ---- equality tests
 

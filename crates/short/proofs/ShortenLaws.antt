@@ -49,7 +49,7 @@ use Rattle.short.specs.Short.{Short, short, Shorts, □, ◌▸◌, height, heig
 use Rattle.short.specs.Making.{made, mismatch, refused, Making, answer, ◌and_then◌, unless, made_of, spelt}
 use Rattle.short.specs.Shortening.{expand, expand_all, same_sequent, least_mask, least_place, with_mask, at_place, least, shrunk, shorten, shorten_all}
 use Rattle.short.specs.Taken.{BuiltAll, none_left, one_more, Taken}
-use Rattle.short.specs.StepsLaws.{step_builds, built_taken, built_concluded, built_all_for, depth_positive}
+use Rattle.short.proofs.StepsLaws.{step_builds, built_taken, built_concluded, built_all_for, depth_positive}
 use Rattle.short.specs.Few.{Few, Few*, FewEach, few_none, few_more}
 use Rattle.short.specs.Closed.{Stay, Closed}
 use Rattle.short.specs.EnteredLaws.{enter_stays, enter_closed, stay_trans}
@@ -77,7 +77,7 @@ use Rattle.short.specs.MakingLaws.{
   spelt_again,
 }
 use Rattle.short.specs.Least.{Least}
-use Rattle.short.specs.LeastLaws.{
+use Rattle.short.proofs.LeastLaws.{
   same_sequent_iff,
   fits_takes,
   fits_premises,
@@ -90,7 +90,7 @@ use Rattle.short.specs.LeastLaws.{
   least_found,
 }
 use Rattle.short.specs.Stages.{Grown, Shrunk}
-use Rattle.short.specs.ExpandLaws.{concluded_count, grown_made, expand_makes, paired_built}
+use Rattle.short.proofs.ExpandLaws.{concluded_count, grown_made, expand_makes, paired_built}
 use Rattle.short.specs.Regular.{has_short, RegularNode, Regular, Regular*}
 
 -- ---- the least place and mask, whatever is held
