@@ -68,7 +68,7 @@ use Rattle.short.proofs.WalkedLaws.{expanded_depth, shortened_least}
 use Rattle.short_bytes.specs.Write.{has_mask}
 use Rattle.short_bytes.specs.Read.{read_short}
 use Rattle.short_bytes.specs.Fits.{HasShort, MaskFits, ShortNodesFit, ShortNodesFit*, ShortFits}
-use Rattle.short_bytes.specs.ShortBytes.{read_write_short, write_read_short}
+use Rattle.short_bytes.proofs.ShortBytes.{read_write_short, write_read_short}
 use Rattle.short_trees.specs.declared.Answer.{Answer}
 use Rattle.short_trees.specs.declared.Answer.TheVariants.{Written, Refused}
 use Rattle.short_trees.specs.Promise.{
