@@ -27,7 +27,7 @@ use Rattle.question.specs.Answers.{kind_of, zone_size, answered, turned, turned_
 use Rattle.question.specs.Found.{Found}
 use Rattle.question.specs.FoundLaws.{question_length, body_length, found}
 use Rattle.question.specs.Turning.{TwoSided}
-use Rattle.question.specs.TurningLaws.{turned_length, turned_zone_size, left_in_got}
+use Rattle.question.proofs.TurningLaws.{turned_length, turned_zone_size, left_in_got}
 
 -- ---- by the tests of the code
 

@@ -1,5 +1,5 @@
 use native.Mathlib.Omega.{arith}
-use Rattle.question.specs.NegatingLaws.{negating_starts, negating_kept, negating_never, negating_further, negating_within, negating_on, negating_ends}
+use Rattle.question.proofs.NegatingLaws.{negating_starts, negating_kept, negating_never, negating_further, negating_within, negating_on, negating_ends}
 use Rattle.question.proofs.negate_formulas.Goals as goal
 
 pub loop-p-init : goal.loop-p-init

@@ -1,7 +1,7 @@
 use mathlib.Core.Path.{◌∙◌}
 use native.Mathlib.Omega.{arith}
 use lib.ListN.{length-set}
-use Rattle.question.specs.TurningLaws.{head_stored}
+use Rattle.question.proofs.TurningLaws.{head_stored}
 use Rattle.question.proofs.put_head.Goals as goal
 
 pub put_two-requires : goal.put_two-requires

@@ -1,4 +1,4 @@
-use Rattle.question.specs.TurningLaws.{two_stored}
+use Rattle.question.proofs.TurningLaws.{two_stored}
 use Rattle.question.proofs.put_two.Goals as goal
 
 pub returns : goal.returns

@@ -1,7 +1,7 @@
 use mathlib.Core.Path.{◌∙◌}
 use native.Mathlib.Omega.{arith}
 use lib.Dec.{lit<}
-use Rattle.question.specs.TurningLaws.{turn_head, turn_tail, turn_end, turn_negatable, turn_stored}
+use Rattle.question.proofs.TurningLaws.{turn_head, turn_tail, turn_end, turn_negatable, turn_stored}
 use Rattle.question.proofs.turn.Goals as goal
 
 pub put_head-requires : goal.put_head-requires

@@ -16,7 +16,7 @@ use Rattle.question.specs.Found.{Cut, Found}
 use Rattle.question.specs.FoundLaws.{laid_out, question_length, body_length, found_at}
 use Rattle.question.specs.Negating.{negated, Negatable}
 use Rattle.wire.proofs.ZoneBytes.{write_formulas_append}
-use Rattle.question.specs.NegatingLaws.{negate_zone_size}
+use Rattle.question.proofs.NegatingLaws.{negate_zone_size}
 use Rattle.question.specs.Turning.{head_of, TwoSided}
 
 pub two_stored : (out : List ℕ) (at n : ℕ) {h l : ℕ} → h ≡ n / 256 → l ≡ n % 256 → set (set out at h) (at + 1) l ≡ sets out at (two_bytes n)

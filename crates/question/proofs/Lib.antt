@@ -1,0 +1,2 @@
+pub mod NegatingLaws
+pub mod TurningLaws
