@@ -1,2 +1,3 @@
 pub mod NegatingLaws
 pub mod TurningLaws
+pub mod OneSidedLaws

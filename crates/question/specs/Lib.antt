@@ -8,4 +8,3 @@ pub mod Found
 pub mod FoundLaws
 pub mod Negating
 pub mod Turning
-pub mod OneSidedLaws

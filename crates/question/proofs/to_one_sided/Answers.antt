@@ -1,5 +1,5 @@
 use Rattle.std.proofs.Math.Seq.{take-length}
-use Rattle.question.specs.OneSidedLaws.{one_sided_refused, one_sided_short, one_sided_written, one_sided_copied, two_sided_ready}
+use Rattle.question.proofs.OneSidedLaws.{one_sided_refused, one_sided_short, one_sided_written, one_sided_copied, two_sided_ready}
 use Rattle.question.proofs.to_one_sided.Goals as goal
 
 pub returns-then-out-s : goal.returns-then-out-s
