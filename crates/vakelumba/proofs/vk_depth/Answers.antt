@@ -1,0 +1,8 @@
+use mathlib.Core.Path.{ap, ◌∙◌}
+use borrow.Author.Rules.{rules}
+use Rattle.vakelumba.specs.Says.{of_measured}
+use Rattle.vakelumba.specs.SaysLaws.{answer_said}
+use Rattle.vakelumba.proofs.vk_depth.Goals as goal
+
+pub returns : goal.returns
+returns c = answer_said (c.said_measured.ensures ∙ ap of_measured c.depth.ensures) c.tell.ensures
