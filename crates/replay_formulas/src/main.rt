@@ -7,7 +7,7 @@ use std::io;
 use stored::{MOST_RECORDS, Tally, Unread};
 
 // The calls that write.
-#[derive(Drop)]
+#[derive(Clone, Copy)]
 pub enum Call {
     Negate,
     Desugar,

@@ -7,7 +7,7 @@ use stored::{MOST_RECORDS, Tally, Unread};
 const WHY_NOT: usize = 12;
 
 // What came of the list: its questions, by the Rust's answer, and the failures that were new after them.
-#[derive(Drop)]
+#[derive(Clone, Copy)]
 pub struct Compared {
     pub found: Tally,
     pub not_found: Tally,
@@ -31,7 +31,7 @@ fn is_written(list: &mut Unread<'_>, said: Said, out: &[u8]) -> bool {
 }
 
 // Where the next item of a failure goes, and where the marked ones begin: 0 where none came.
-#[derive(Drop)]
+#[derive(Clone, Copy)]
 pub struct Place {
     pub at: usize,
     pub marked: usize,

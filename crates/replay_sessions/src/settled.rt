@@ -4,7 +4,7 @@ ghost use Rattle.std.specs.Prelude.{◌≡◌, length};
 use crate::asking::{MESSAGE, Said, Settings, ask_into, failures_held, formulas_held, fresh};
 
 // Document 01's number and the counters; how many formulas and failures are held afterwards.
-#[derive(Drop)]
+#[derive(Clone, Copy)]
 pub struct Expected {
     pub answer: usize,
     pub explored: usize,

@@ -11,7 +11,7 @@ use std::io::Read;
 pub const MOST_RECORDS: usize = 1000000;
 
 // How many were compared, and how many of them differ.
-#[derive(Drop)]
+#[derive(Clone, Copy)]
 pub struct Tally {
     pub compared: u64,
     pub differing: u64,
