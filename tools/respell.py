@@ -149,6 +149,10 @@ def main():
         for line in text.split("\n"):
             if re.match(r"old:|new:", line):
                 line = turned(line, line, set(), set(), table)
+                # what port.py turned in the text: a tight projection, a plain prime, names that the kit has too
+                line = re.sub(r" \.(?=[a-z«])", ".", line.replace("′", "'"))
+                line = re.sub(r"\(([a-z_]+(?:\.[a-z_]+)+)\)", r"\1", line)
+                line = re.sub(r"(?<=[a-z])-(?=[a-z])", "_", line) if not re.search(r"\bloop-|//", line) else line
             lines.append(line)
         write(p, text, "\n".join(lines))
     pages = [os.path.join(top, "README.md")]

@@ -1,5 +1,7 @@
 // A question in bytes, entered into the lent words of formulas whole or not at all: the formulas read, in byte order, and then the negations of its antecedents. What is asked is then a sequent of
 // numbers of held formulas.
+#![tactic(auto)]
+
 pub mod whole; // whole.rt: a question read from bytes into the whole lent memory
 
 ghost use Rattle.std.specs.Prelude.{◌≡◌, true};
@@ -11,7 +13,7 @@ use question::{ONE_SIDED, Places};
 use zones::Zones;
 
 // The sequent to be searched, where there was room for the question's formulas.
-#[derive(Drop)]
+#[derive(Clone, Copy)]
 pub struct Asked {
     pub full: bool,
     pub zones: Zones,

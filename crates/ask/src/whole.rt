@@ -9,14 +9,14 @@ use question::{Question, read_question};
 use zones::Zones;
 
 // A sequent to be searched, or why there is none.
-#[derive(Drop)]
+#[derive(Clone, Copy)]
 pub enum Reading {
     Sequent,
     Refused(Refusal),
 }
 
 // The answer, with the sequent's zones.
-#[derive(Drop)]
+#[derive(Clone, Copy)]
 pub struct Entered {
     pub reading: Reading,
     pub zones: Zones,

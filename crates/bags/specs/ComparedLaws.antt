@@ -8,11 +8,11 @@ use native.Mathlib.Omega.{arith}
 use Rattle.std.proofs.Math.Nat.{div-add-mod'}
 use Rattle.std.proofs.Math.ListN.{get_or}
 use Rattle.logic.specs.Formula.{Formula, same, size, height}
-use Rattle.logic.specs.FormulaLaws.{height_positive}
+use Rattle.logic.proofs.FormulaLaws.{height_positive}
 use Rattle.logic.specs.Parts.{tag_of}
 use Rattle.logic.specs.Legal.{as_number}
 use Rattle.wire.specs.Write.{two_bytes, write_formula}
-use Rattle.wire.specs.FormulaBytes.{length_write}
+use Rattle.wire.proofs.FormulaBytes.{length_write}
 use Rattle.wire.specs.Read.{highest_formula}
 use Rattle.tree.specs.Stands.{Stands}
 use Rattle.tree.specs.StandsLaws.{stands_left, stands_right, stands_head, stands_tail}

@@ -3,12 +3,12 @@ use Rattle.std.specs.Prelude.{◌≡◌, refl, Bool, true, false, ◌&&◌, List
 use Rattle.std.proofs.Common.{sym, ap, ap₂, ◌∙◌, arith, eq-eqb, eqb-true, ne_eqb, length-append}
 use Rattle.std.proofs.Math.Bool.{So, and-eq-true_iff, and_assoc}
 use Rattle.logic.specs.Formula.{Formula, same}
-use Rattle.logic.specs.FormulaLaws.{same_iff}
+use Rattle.logic.proofs.FormulaLaws.{same_iff}
 use Rattle.logic.specs.Zone.{total}
-use Rattle.logic.specs.ZoneLaws.{total_append}
+use Rattle.logic.proofs.ZoneLaws.{total_append}
 use Rattle.logic.specs.Legal.{as_number, times, plain}
 use Rattle.logic.specs.Key.{same_bag}
-use Rattle.logic.specs.Bags.{same_bag_iff, same_length, counts_itself}
+use Rattle.logic.proofs.Bags.{same_bag_iff, same_length, counts_itself}
 use Rattle.bags.specs.ReadingLaws.{same_test}
 use Rattle.bags.specs.Compared.{read_at}
 use Rattle.bags.specs.Runs.{BagReads, Counts, CountsIn, Long, LongIn, agree_on, Agrees, BagsSame}

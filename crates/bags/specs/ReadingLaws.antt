@@ -4,7 +4,7 @@ use Rattle.std.proofs.Common.{sym, ap, ap₂, ◌∙◌, arith, eq-eqb, eqb-true
 use Rattle.std.proofs.Math.Bool.{So, and-eq-true_iff}
 use Rattle.std.proofs.Math.ListN.{get_or-eq_default}
 use Rattle.logic.specs.Formula.{Formula, One, Bottom, Top, Zero, Atom, NegAtom, Tensor, Par, With, Plus, Lolli, OfCourse, WhyNot, negate, spell, size, height, same}
-use Rattle.logic.specs.FormulaLaws.{same_iff, different_same}
+use Rattle.logic.proofs.FormulaLaws.{same_iff, different_same}
 use Rattle.logic.specs.Parts.{tag_of, signs, make, negated_tags, negated_tag}
 use Rattle.wire.specs.Write.{write_formula}
 use Rattle.bags.specs.Reading.{read_as, Rest, unit, named, binary, unary, rest_of, Follows, write_rest, rest_size, rest_height, sign_of, left_how, right_how, rest_as}

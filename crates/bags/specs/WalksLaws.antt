@@ -7,7 +7,7 @@ use mathlib.Core.List.{List, [], ◌∷◌, map}
 use Rattle.std.proofs.Math.Dec.{eqb}
 use Rattle.std.proofs.lemmas.List.{length-map}
 use Rattle.logic.specs.Formula.{Formula, size, same}
-use Rattle.logic.specs.FormulaLaws.{size_positive}
+use Rattle.logic.proofs.FormulaLaws.{size_positive}
 use Rattle.logic.specs.Zone.{total}
 use Rattle.logic.specs.Legal.{as_number, times, plain}
 use Rattle.tree.specs.Places.{FormulaAt, Passed}

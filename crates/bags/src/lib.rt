@@ -1,4 +1,6 @@
 // Formulas compared where they stand in a message, and multisets of them, compared by counting. A formula is a place in the message and a way to read it.
+#![tactic(auto)]
+
 ghost use Rattle.std.specs.Prelude.{◌≡◌, ◌≤◌, length};
 ghost use Rattle.logic.specs.Parts.{negated_tag};
 ghost use Rattle.bags.specs.Reading.{sign_of, left_how, right_how};
@@ -8,7 +10,7 @@ ghost use Rattle.bags.specs.Runs.{Short, RunWithin, BagWithin, Counts, CountsIn,
 use tree::HIGHEST_FORMULA;
 
 // How the formula at a place is read: as it stands, with an implication at the top spelled out, or negated.
-#[derive(Drop)]
+#[derive(Clone, Copy)]
 pub enum How {
     Plain,
     Spelled,
@@ -16,14 +18,14 @@ pub enum How {
 }
 
 // A formula: where it stands, and how it is read.
-#[derive(Drop)]
+#[derive(Clone, Copy)]
 pub struct Place {
     pub at: usize,
     pub how: How,
 }
 
 // The formulas from one place to another, each read so.
-#[derive(Drop)]
+#[derive(Clone, Copy)]
 pub struct Run {
     pub at: usize,
     pub end: usize,
@@ -31,7 +33,7 @@ pub struct Run {
 }
 
 // A multiset: the formulas of three runs.
-#[derive(Drop)]
+#[derive(Clone, Copy)]
 pub struct Bag {
     pub first: Run,
     pub second: Run,
@@ -39,14 +41,14 @@ pub struct Bag {
 }
 
 // A comparison: the places after both formulas, where they are the same.
-#[derive(Drop)]
+#[derive(Clone, Copy)]
 pub enum Compared {
     Same { a: usize, b: usize },
     Different,
 }
 
 // What is known at two tags: the comparison, or that one part or two of each are still to be compared.
-#[derive(Drop)]
+#[derive(Clone, Copy)]
 pub enum Tops {
     Told(Compared),
     One,

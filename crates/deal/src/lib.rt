@@ -1,12 +1,14 @@
 // The least mask that deals a list's items out to two lists: item i goes to the left one where bit i of the mask is 0, and else to the right one, each list in its
 // order. No mask is tried: one row of masks, worked out from the last items to the first, in at most 32 · 32 steps.
+#![tactic(auto)]
+
 pub mod places; // places.rt: the least mask at a place of a zone
 
 ghost use Rattle.std.specs.Prelude.{◌≤◌, length, drop};
 ghost use Rattle.deal.specs.Deal.{Answers};
 ghost use Rattle.deal.specs.Cells.{Cell, Put, Lesser, Sized, CellAt, CellReady, Before, After};
 
-#[derive(Drop)]
+#[derive(Clone, Copy)]
 pub enum Dealt {
     Mask(u32),
     Nowhere,

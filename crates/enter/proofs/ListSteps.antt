@@ -9,13 +9,13 @@ use native.Mathlib.Numerals.{add-one}
 use lib.ListN.{get_or, length, take, drop, set, length-set, drop_of_length-le, length-append, length-take, length-drop, take-append-drop, length-map, get_or-map}
 use lib.Seq.{slice, length-slice, slice_empty, take-suc, drop-cons, drop-drop, drop_at, length-take-le, take_all, get_or-take, get_or-set_same, get_or-set_other}
 use Rattle.logic.specs.Formula.{Formula, One, negate, height, size}
-use Rattle.logic.specs.FormulaLaws.{size_positive}
+use Rattle.logic.proofs.FormulaLaws.{size_positive}
 use Rattle.logic.specs.Held.{enter, enter_all}
 use Rattle.wire.specs.Write.{write_formula, write_formulas}
 use Rattle.wire.specs.Read.{got, read_all}
 use Rattle.wire.specs.Fits.{FormulasFit, FormulaFits, ZoneFits}
-use Rattle.wire.specs.FormulaBytes.{length_write}
-use Rattle.wire.specs.ZoneBytes.{length_write_formulas, drop_split}
+use Rattle.wire.proofs.FormulaBytes.{length_write}
+use Rattle.wire.proofs.ZoneBytes.{length_write_formulas, drop_split}
 use Rattle.formula.specs.Signs.{Stands}
 use Rattle.held.specs.EnterLaws.{enter_longer, enter_all_longer}
 use Rattle.held.specs.Words.{count, most, view, told, named, Wf, Extends}

@@ -10,7 +10,7 @@ use Rattle.logic.specs.Formula.{Formula, One, height, size}
 use Rattle.logic.specs.Held.{add, enter}
 use Rattle.formula.specs.Signs.{Stands}
 use Rattle.formula.specs.SignsLaws.{starts_inside}
-use Rattle.logic.specs.PartsLaws.{height_binary, height_unary}
+use Rattle.logic.proofs.PartsLaws.{height_binary, height_unary}
 use Rattle.held.specs.Signs.{node}
 use Rattle.held.specs.SignsLaws.{node_make}
 use Rattle.held.specs.EnterLaws.{enter_longer}

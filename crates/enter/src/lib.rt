@@ -1,5 +1,7 @@
 // Formulas read from bytes, entered into the lent words of formulas with their parts: parts before wholes, left before right, each once. The bytes are known to be whole formulas: reading them
 // with its refusals is the crate `question`'s.
+#![tactic(auto)]
+
 pub mod lists; // lists.rt: the formulas of a zone, one after another, and their negations
 
 ghost use Rattle.std.specs.Prelude.{◌≡◌, ◌+◌, ◌*◌, ◌<◌, ◌≤◌, get_or, length};
@@ -11,14 +13,14 @@ use held::Added;
 use held::entry::add;
 
 // The number of a formula that was entered, and the place after its bytes; or no room for it with its parts.
-#[derive(Drop)]
+#[derive(Clone, Copy)]
 pub enum Entry {
     At(usize, usize),
     Full,
 }
 
 // What a formula's tag is followed by: nothing or a name, and the place after it; one part; two parts.
-#[derive(Drop)]
+#[derive(Clone, Copy)]
 pub enum Sign {
     Leaf(usize, usize, usize),
     One(usize),

@@ -7,7 +7,7 @@ use held::Added;
 use held::turn::negate_held;
 
 // How many formulas were listed; or no room for them.
-#[derive(Drop)]
+#[derive(Clone, Copy)]
 pub enum Listed {
     Count(usize),
     Full,

@@ -8,12 +8,12 @@ use native.Mathlib.Omega.{arith}
 use lib.ListN.{get_or, set, length, take, drop, take-append-drop, length-append, length-set}
 use lib.Seq.{length-sets, take-suc, take-take, length-take-le, get_or-take}
 use Rattle.logic.specs.Formula.{Formula, size}
-use Rattle.logic.specs.FormulaLaws.{size_positive}
+use Rattle.logic.proofs.FormulaLaws.{size_positive}
 use Rattle.logic.specs.Parts.{tag_of, left_part, right_part, signs, make}
-use Rattle.logic.specs.PartsLaws.{unit_tags, name_tags, binary_tags, unary_tags, tag_make, left_make, right_make}
+use Rattle.logic.proofs.PartsLaws.{unit_tags, name_tags, binary_tags, unary_tags, tag_make, left_make, right_make}
 use Rattle.wire.specs.Write.{two_bytes, write_formula, write_formulas, write_zone}
-use Rattle.wire.specs.FormulaBytes.{length_write}
-use Rattle.wire.specs.ZoneBytes.{write_formulas_append, write_formulas_one, length_write_zone}
+use Rattle.wire.proofs.FormulaBytes.{length_write}
+use Rattle.wire.proofs.ZoneBytes.{write_formulas_append, write_formulas_one, length_write_zone}
 use Rattle.formula.specs.RewritingLaws.{sets_append}
 use Rattle.held.specs.SignsLaws.{node_make}
 use Rattle.held.specs.Words.{at, count, view, told, named, Row, unit, name, two, one, Wf}

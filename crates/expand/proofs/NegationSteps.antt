@@ -8,9 +8,9 @@ use borrow.Author.Count.{below_more}
 use lib.ListN.{get_or, set, length, length-set}
 use lib.Seq.{get_or-set_same, get_or-set_other}
 use Rattle.logic.specs.Formula.{Formula, negate, height, size}
-use Rattle.logic.specs.FormulaLaws.{negate_height, negate_size}
+use Rattle.logic.proofs.FormulaLaws.{negate_height, negate_size}
 use Rattle.logic.specs.Parts.{tag_of, left_part, right_part, make, negated_tag}
-use Rattle.logic.specs.PartsLaws.{
+use Rattle.logic.proofs.PartsLaws.{
   make_binary,
   make_unary,
   tag_make,

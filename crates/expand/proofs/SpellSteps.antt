@@ -9,9 +9,9 @@ use borrow.Author.Count.{below_more}
 use lib.ListN.{get_or, length, take, drop, take-append-drop, length-take, length-map}
 use lib.Seq.{length-take-le, take-take, get_or-take, get_or_at}
 use Rattle.logic.specs.Formula.{Formula, One, same, among, negate, spell}
-use Rattle.logic.specs.FormulaLaws.{same_iff}
+use Rattle.logic.proofs.FormulaLaws.{same_iff}
 use Rattle.logic.specs.Parts.{tag_of, signs, make}
-use Rattle.logic.specs.PartsLaws.{leaf_tags, binary_tags, unary_tags, all_tags}
+use Rattle.logic.proofs.PartsLaws.{leaf_tags, binary_tags, unary_tags, all_tags}
 use Rattle.logic.specs.Sequent.{Sequent, ◌﹔◌}
 use Rattle.logic.specs.Built.{decomposable, Passed, none_yet, and_passed}
 use Rattle.logic.specs.Conclusion.{spell_first}

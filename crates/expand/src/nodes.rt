@@ -19,7 +19,7 @@ pub const LEVELS: usize = 65;
 const HEAD: usize = 6;
 
 // How far the words are used, and how far the bytes are counted or written.
-#[derive(Drop)]
+#[derive(Clone, Copy)]
 pub struct Place {
     pub at: usize,
     pub to: usize,
@@ -153,7 +153,7 @@ pub fn tree_bytes(
 }
 
 // What became of a found tree: so many bytes of the output, or none where it does not fit.
-#[derive(Drop)]
+#[derive(Clone, Copy)]
 pub enum Output {
     Bytes(usize),
     TooLong,

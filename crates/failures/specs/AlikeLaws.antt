@@ -5,9 +5,9 @@ use Rattle.std.proofs.Math.Bool.{So}
 use Rattle.std.proofs.lemmas.Bool.{false≢true}
 use borrow.Author.Tests.{lt-ltb, le-ltb}
 use Rattle.logic.specs.Key.{Key, same_bag, contains}
-use Rattle.logic.specs.Bags.{same_bag_iff}
+use Rattle.logic.proofs.Bags.{same_bag_iff}
 use Rattle.logic.specs.Legal.{Same, plain}
-use Rattle.logic.specs.SameLaws.{same_of, same_sym, same_trans}
+use Rattle.logic.proofs.SameLaws.{same_of, same_sym, same_trans}
 use Rattle.logic.specs.Answer.{failures_full}
 use Rattle.logic.specs.Limits.{Limit, at_most, exceeds}
 use Rattle.logic.specs.Outcome.{State, nothing, refused, with_failure, record_failure, if◌then◌else◌}

@@ -10,9 +10,9 @@ use Prim.Native.Nat.{ℕ, zero, suc, ◌+◌, ◌-◌, ◌*◌, ◌/◌, ◌%◌
 use Rattle.std.proofs.Math.ListN.{get_or-map}
 use Rattle.logic.specs.Formula.{Formula}
 use Rattle.logic.specs.Key.{Key, sequent_key, same_bag, contains}
-use Rattle.logic.specs.Bags.{same_bag_iff}
+use Rattle.logic.proofs.Bags.{same_bag_iff}
 use Rattle.logic.specs.Legal.{Same, plain}
-use Rattle.logic.specs.SameLaws.{same_of, same_sym, same_trans}
+use Rattle.logic.proofs.SameLaws.{same_of, same_sym, same_trans}
 use Rattle.logic.specs.Outcome.{State}
 use Rattle.zones.specs.declared.Zones.{Zones}
 use Rattle.zones.specs.Zones.{meant}

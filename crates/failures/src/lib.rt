@@ -2,13 +2,15 @@
 // order word j, at ORDER + j, is the number of the failure that comes j-th by its words.
 // An item is twice the number of a held formula, and one more where it is marked with a why-not; ?A is always the marked A. Items never fall. Every word that holds nothing is zero.
 // Any words may be lent: `well_formed` tells whether they are of this form.
+#![tactic(auto)]
+
 pub mod items; // items.rt: the key of a sequent as ordered items
 pub mod order; // order.rt: the order words
 pub mod records; // records.rt: looking a failure up, and recording it
 pub mod form; // form.rt: the well-formed test, and reset
 
 // What became of a failure that was to be recorded.
-#[derive(Drop)]
+#[derive(Clone, Copy)]
 pub enum Noted {
     Known,
     Recorded,

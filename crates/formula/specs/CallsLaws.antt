@@ -12,7 +12,7 @@ use Rattle.wire.specs.Write.{write_formula}
 use Rattle.wire.specs.Read.{Read, got, refused, Sign, unit, named, binary, unary, signs, read_formula, highest_formula, at_end, read_one, ◌then◌}
 use Rattle.wire.specs.Gives.{AllAt}
 use Rattle.wire.specs.Fits.{Bytes, NamesFit}
-use Rattle.wire.specs.FormulaBytes.{length_write, write_read}
+use Rattle.wire.proofs.FormulaBytes.{length_write, write_read}
 use Rattle.formula.specs.Answers.{coded, reads}
 use Rattle.formula.specs.Calls.{written, left_in, Writes, positive}
 use Rattle.formula.specs.Reading.{form_of, positive_tag}

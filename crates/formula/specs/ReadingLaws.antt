@@ -12,7 +12,7 @@ use Rattle.wire.specs.Write.{write_formula}
 use Rattle.wire.specs.Read.{Read, got, refused, Sign, unit, named, binary, unary, signs, entry, read_byte, read_two, read_parts, read_formula, highest_formula, at_end, read_one, ◌then◌}
 use Rattle.wire.specs.Fits.{Bytes, ReadBack}
 use Rattle.wire.specs.FitsLaws.{bytes_take, bytes_drop}
-use Rattle.wire.specs.FormulaBytes.{length_write, write_read}
+use Rattle.wire.proofs.FormulaBytes.{length_write, write_read}
 use Rattle.formula.specs.Answers.{coded, reads}
 use Rattle.formula.specs.Reading.{form_of_sign, form_in, form_of, above_of, look_of, read_on, Goes_on, Looked}
 use Rattle.formula.specs.declared.Read as read

@@ -4,11 +4,11 @@ use Rattle.std.proofs.Common.{sym, ap, subst, ◌∙◌, arith, add-one, ne_eqb,
 use Rattle.std.proofs.lemmas.List.Edits.{sets}
 use Rattle.std.proofs.Math.Seq.{length-sets}
 use Rattle.logic.specs.Formula.{Formula, negate, desugar, desugar_negation, size}
-use Rattle.logic.specs.FormulaLaws.{negate_size, desugar_size, desugar_negation_size}
+use Rattle.logic.proofs.FormulaLaws.{negate_size, desugar_size, desugar_negation_size}
 use Rattle.wire.specs.Write.{write_formula, two_bytes}
 use Rattle.wire.specs.Read.{Sign, unit, named, binary, unary, signs}
 use Rattle.wire.specs.Gives.{AllAt}
-use Rattle.wire.specs.FormulaBytes.{length_write}
+use Rattle.wire.proofs.FormulaBytes.{length_write}
 use Rattle.formula.specs.Reading.{form_of}
 use Rattle.formula.specs.Signs.{At, Stands, UnitAt, NamedAt, BinaryAt, UnaryAt}
 use Rattle.formula.specs.SignsLaws.{all_at, shaped, starts_inside, tag_below}

@@ -7,8 +7,8 @@ use Rattle.logic.specs.Formula.{Formula, One, Bottom, Top, Zero, Atom, NegAtom, 
 use Rattle.wire.specs.Write.{write_formula, two_bytes}
 use Rattle.wire.specs.Read.{Sign, unit, named, binary, unary, signs}
 use Rattle.wire.specs.Gives.{AllAt}
-use Rattle.logic.specs.FormulaLaws.{size_positive}
-use Rattle.wire.specs.FormulaBytes.{length_write}
+use Rattle.logic.proofs.FormulaLaws.{size_positive}
+use Rattle.wire.proofs.FormulaBytes.{length_write}
 use Rattle.formula.specs.Reading.{form_of, form_in, form_of_sign}
 use Rattle.formula.specs.ReadingLaws.{unknown_tag}
 use Rattle.formula.specs.Signs.{At, Signed, a_unit, a_name, a_pair, a_part, Stands, UnitAt, NamedAt, BinaryAt, UnaryAt, Shape}

@@ -1,6 +1,8 @@
 // Formulas in bytes (document 01, "Bytes"): reading them with its refusals, and the calls on one formula, formula.rs's `negate`, `desugar` and `is_positive`.
 //
 // A formula is a tag, then its parts in order. Every call takes any bytes whatever: the whole slice is one formula, or the answer is the refusal that comes first in document 01's order.
+#![tactic(auto)]
+
 pub mod rewrite; // rewrite.rt: the formula rewritten byte by byte in place: copied, negated, spelled out
 
 ghost use Rattle.std.specs.Prelude.{◌≡◌, ◌≤◌, ◌<◌, length};
@@ -15,7 +17,7 @@ ghost use Rattle.formula.specs.Reading.{form_of, above_of, positive_tag, Looked}
 use rewrite::How;
 
 // Document 01's table "What a call can say", but for 0 and 1.
-#[derive(Drop)]
+#[derive(Clone, Copy)]
 pub enum Refusal {
     WrongNumber,
     WrongLength,
@@ -31,28 +33,28 @@ pub enum Refusal {
 }
 
 // What a reader answers: the place after what it read, or a refusal.
-#[derive(Drop)]
+#[derive(Clone, Copy)]
 pub enum Read {
     Next(usize),
     Refused(Refusal),
 }
 
 // What a writer answers: how many bytes it wrote, from the front of the output buffer, or a refusal.
-#[derive(Drop)]
+#[derive(Clone, Copy)]
 pub enum Written {
     Bytes(usize),
     Refused(Refusal),
 }
 
 // What `is_positive` answers.
-#[derive(Drop)]
+#[derive(Clone, Copy)]
 pub enum Positive {
     Is(bool),
     Refused(Refusal),
 }
 
 // What a tag is followed by.
-#[derive(Drop)]
+#[derive(Clone, Copy)]
 pub enum Form {
     Unit,
     Named,
@@ -62,7 +64,7 @@ pub enum Form {
 }
 
 // What is known at a formula's tag: the answer, or that one part or two are still to be read.
-#[derive(Drop)]
+#[derive(Clone, Copy)]
 pub enum Look {
     Done(Read),
     One,

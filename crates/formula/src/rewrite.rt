@@ -7,7 +7,7 @@ ghost use Rattle.formula.specs.Rewriting.{rewritten, turned_of, left_of, Ready, 
 use super::{Form, Read, Refusal, Written, form_of, read_one};
 
 // What becomes of a part: it stays, it is negated, its implications are spelled out, or those of its negation are.
-#[derive(Drop)]
+#[derive(Clone, Copy)]
 pub enum How {
     Copy,
     Negate,

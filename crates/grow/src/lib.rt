@@ -1,5 +1,7 @@
 // A short tree expanded against the sequent that it is to conclude: each node's conclusion and premises are worked out from the question downward, as search.rs
 // makes them (crates/short/specs/Shortening.antt: `expand`).
+#![tactic(auto)]
+
 ghost use Rattle.std.specs.Prelude.{◌≡◌, ◌≤◌, ◌<◌, length};
 ghost use Rattle.grow.specs.Growing.{MaskAt, NodeAt, Putting, PutHead, Growing, Grows};
 
@@ -16,7 +18,7 @@ pub const LONGEST: usize = 65538;
 pub const TOO_LONG: usize = 65539;
 
 // A part of the tree expanded: the places after it in the short message and in the full one, the latter at most TOO_LONG. Or why there is none: 7, 15, 6.
-#[derive(Drop)]
+#[derive(Clone, Copy)]
 pub enum Grown {
     Whole { next: usize, to: usize },
     Full,
@@ -25,7 +27,7 @@ pub enum Grown {
 }
 
 // A node of the short message: its rule's number, its place and its mask, and the place after its bytes. A byte past the end is 0.
-#[derive(Drop)]
+#[derive(Clone, Copy)]
 pub struct Node {
     pub rule: usize,
     pub place: usize,

@@ -11,8 +11,8 @@ use lib.Seq.{get_or-set_same, get_or-set_other}
 use denote.Enum.Declared.{tag_of}
 use Rattle.logic.specs.Formula.{Formula, One, negate, spell, height, size, among}
 use Rattle.logic.specs.Parts.{make, negated_tag}
-use Rattle.logic.specs.FormulaLaws.{negate_height, negate_size, spell_height, spell_size}
-use Rattle.logic.specs.PartsLaws.{
+use Rattle.logic.proofs.FormulaLaws.{negate_height, negate_size, spell_height, spell_size}
+use Rattle.logic.proofs.PartsLaws.{
   make_binary,
   make_unary,
   make_lolli,

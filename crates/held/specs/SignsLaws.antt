@@ -4,7 +4,7 @@ use Rattle.std.proofs.Math.Path.{refl}
 use Rattle.std.proofs.Common.{ap}
 use Rattle.logic.specs.Formula.{Formula, One, OfCourse, WhyNot, height, size}
 use Rattle.logic.specs.Parts.{signs, make}
-use Rattle.logic.specs.PartsLaws.{leaf_tags, binary_tags, unary_tags, height_leaf, height_binary, height_unary, size_unit as unit_size, size_name as name_size, size_binary, size_unary, make_leaf}
+use Rattle.logic.proofs.PartsLaws.{leaf_tags, binary_tags, unary_tags, height_leaf, height_binary, height_unary, size_unit as unit_size, size_name as name_size, size_binary, size_unary, make_leaf}
 use Rattle.logic.specs.Held.{add, enter}
 use Rattle.held.specs.Signs.{node}
 

@@ -4,7 +4,7 @@ use Rattle.std.proofs.Common.{sym, ◌∙◌, ap, arith, lt_of_lt_of_le, length-
 use Rattle.logic.specs.Formula.{Formula, One, height, size, among}
 use Rattle.logic.specs.Parts.{make}
 use Rattle.logic.specs.Held.{add, enter}
-use Rattle.logic.specs.PartsLaws.{height_binary, height_unary, size_binary, size_unary}
+use Rattle.logic.proofs.PartsLaws.{height_binary, height_unary, size_binary, size_unary}
 use Rattle.held.specs.Signs.{node}
 use Rattle.held.specs.SignsLaws.{node_make, enter_low, enter_mid, enter_high}
 use Rattle.held.specs.EnterLaws.{add_unknown, added_longer, enter_longer}

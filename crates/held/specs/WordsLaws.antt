@@ -5,9 +5,9 @@ use Rattle.std.proofs.Common.{sym, ◌∙◌, ap, ⊎_elim, inl, inr, suc-le-suc
 use Rattle.std.proofs.Math.ListN.{get_or-append}
 use Rattle.std.proofs.lemmas.List.{get_or_at}
 use Rattle.logic.specs.Formula.{Formula, One, height, size, same, among}
-use Rattle.logic.specs.FormulaLaws.{same_self, different_same}
+use Rattle.logic.proofs.FormulaLaws.{same_self, different_same}
 use Rattle.logic.specs.Parts.{tag_of, name_of, left_part, right_part, make}
-use Rattle.logic.specs.PartsLaws.{tag_make, name_make, left_make, right_make}
+use Rattle.logic.proofs.PartsLaws.{tag_make, name_make, left_make, right_make}
 use Rattle.held.specs.Signs.{node}
 use Rattle.held.specs.SignsLaws.{
   node_make,

@@ -6,7 +6,7 @@ ghost use Rattle.held.specs.Answers.{Tells, Weighed, Joined, is_of, tallOf, wide
 use super::words::field;
 
 // The height and the size of a formula, or that there can be none.
-#[derive(Drop)]
+#[derive(Clone, Copy)]
 pub enum Weight {
     Of(usize, usize),
     Unfit,

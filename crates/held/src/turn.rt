@@ -19,7 +19,7 @@ fn dual(tag: usize) -> usize
 }
 
 // What negating a formula takes: nothing, no part, the right part, two parts, one part.
-#[derive(Drop)]
+#[derive(Clone, Copy)]
 pub enum Step {
     Known(usize),
     Leaf(usize, usize),

@@ -1,4 +1,6 @@
 // The least place, then the least mask, with which a step of the search's rules has the premises that stand in a tree.
+#![tactic(auto)]
+
 ghost use Rattle.std.specs.Prelude.{◌≡◌, ◌≤◌, ◌<◌, length};
 ghost use Rattle.expand.specs.Writing.{Sound};
 ghost use Rattle.step.specs.Taking.{Taken};

@@ -3,7 +3,7 @@ use Rattle.std.specs.Prelude.{◌≡◌, refl, Bool, true, false, List, [], ◌�
 use Rattle.std.proofs.Common.{sym, ◌∙◌, arith, get_or-take}
 use Rattle.std.proofs.lemmas.Bool.{false≢true}
 use Rattle.logic.specs.Formula.{Formula, One, same, among}
-use Rattle.logic.specs.FormulaLaws.{same_iff}
+use Rattle.logic.proofs.FormulaLaws.{same_iff}
 use Rattle.held.specs.Words as formulas
 use Rattle.held.specs.WordsLaws.{held_length, among_true, keeps}
 use Rattle.memory.specs.Meaning.{words, formula_words, holds, held_count, told, Wf, Grew}

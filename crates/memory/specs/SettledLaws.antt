@@ -8,7 +8,7 @@ use Prim.Native.Nat.{ℕ, zero, suc, ◌+◌, ◌-◌, ◌≤◌, ◌<◌}
 use Rattle.std.proofs.Math.ListN.{length}
 use Rattle.logic.specs.Formula.{Formula}
 use Rattle.logic.specs.Key.{Key}
-use Rattle.logic.specs.SameLaws.{same_sym, same_trans}
+use Rattle.logic.proofs.SameLaws.{same_sym, same_trans}
 use Rattle.held.specs.Answers.{Tells}
 use Rattle.held.specs.OrderLaws.{le_or_lt, eq_or_not}
 use Rattle.held.specs.Words as formulas

@@ -1,5 +1,7 @@
 // The whole lent memory: the words of the formulas, then those of the failures, in one slice of WORDS words. What the search asks of it, by the number of a held formula or by a sequent of
 // such numbers. For callers: `reset` and `well_formed`, on any words.
+#![tactic(auto)]
+
 pub mod shape; // shape.rt: a formula's sign and its parts, and an implication spelled out
 pub mod failed; // failed.rt: looking a sequent up among the failures, and recording it
 

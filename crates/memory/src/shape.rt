@@ -7,7 +7,7 @@ ghost use Rattle.memory.specs.Shapes.{ShapeOf, Implication, SpelledOr};
 use super::FORMULAS;
 
 // What `match formula` of search.rs sees: a sign, and the numbers of the parts or the name.
-#[derive(Drop)]
+#[derive(Clone, Copy)]
 pub enum Shape {
     One,
     Bottom,
@@ -25,7 +25,7 @@ pub enum Shape {
 }
 
 // The number of an implication spelled out; or no room for it with its parts.
-#[derive(Drop)]
+#[derive(Clone, Copy)]
 pub enum Spelling {
     At(u16),
     Full,

@@ -2,6 +2,8 @@
 //
 // The text is walked twice, once to count and once to write, so that the output buffer stays as it is where it is too short. The place of writing never passes the buffer's end, so nothing overflows,
 // however long the text is: a walk whose text does not fit goes on reading, and writes no more.
+#![tactic(auto)]
+
 ghost use Rattle.std.specs.Prelude.{◌≡◌, ◌∷◌, [], ◌++◌, ◌+◌, ◌*◌, ◌≤◌, ◌<◌, length};
 ghost use Rattle.std.proofs.lemmas.List.Edits.{sets};
 ghost use Rattle.logic.specs.Text as as_text;
@@ -10,21 +12,21 @@ ghost use Rattle.print.specs.Printing.{signs_of, sign_row, sign_text, Emitted, R
 
 use formula::{Form, Read, Refusal, Written, form_of, read_one};
 
-#[derive(Drop)]
+#[derive(Clone, Copy)]
 pub enum Style {
     Unicode,
     Ascii,
 }
 
 // A walk that only counts, or one that writes.
-#[derive(Drop)]
+#[derive(Clone, Copy)]
 pub enum Pass {
     Count,
     Write,
 }
 
 // Where reading and writing go on, and whether the text fits the output buffer so far.
-#[derive(Drop)]
+#[derive(Clone, Copy)]
 pub struct Place {
     pub next: usize,
     pub to: usize,

@@ -14,7 +14,7 @@ use Rattle.logic.specs.Outcome.{refused, start, if◌then◌else◌, Memory}
 use Rattle.logic.specs.Search.{ask}
 use Rattle.wire.specs.Read as wire
 use Rattle.wire.specs.Fits.{Bytes}
-use Rattle.wire.specs.QuestionBytes.{write_read_question}
+use Rattle.wire.proofs.QuestionBytes.{write_read_question}
 use Rattle.formula.specs.Answers.{coded}
 use Rattle.formula.specs.declared.Refusal.{Refusal}
 use Rattle.formula.specs.declared.Refusal.TheVariants.{HeldFull, WrongSetting, WrongMemory}

@@ -5,14 +5,14 @@ use Rattle.logic.specs.Sequent.{Question}
 use Rattle.logic.specs.Tree.{Tree}
 use Rattle.logic.specs.Verify.{accepted, verify}
 use Rattle.logic.specs.Strict.{verify_strict}
-use Rattle.logic.specs.StrictLaws.{strict_accepts_iff}
+use Rattle.logic.proofs.StrictLaws.{strict_accepts_iff}
 use Rattle.logic.specs.Legal.{Legal}
 use Rattle.wire.specs.Write.{write_formula, write_question, write_tree}
 use Rattle.wire.specs.Read.{got, highest_formula, read_one, read_question, read_tree}
 use Rattle.wire.specs.Fits.{Bytes, FormulaFits, QuestionFits, TreeFits, OneBack, QuestionBack, TreeBack}
-use Rattle.wire.specs.MessageBytes as formula_bytes
-use Rattle.wire.specs.QuestionBytes as question_bytes
-use Rattle.wire.specs.TreeBytes as tree_bytes
+use Rattle.wire.proofs.MessageBytes as formula_bytes
+use Rattle.wire.proofs.QuestionBytes as question_bytes
+use Rattle.wire.proofs.TreeBytes as tree_bytes
 use Rattle.search.specs.declared.counters.Counters.{Counters}
 use Rattle.prover.specs.declared.Answer.TheVariants.{Found}
 use Rattle.prover.specs.Promise.{Call, Left, Promise}

@@ -8,17 +8,17 @@ use Rattle.logic.specs.Outcome.{Outcome, found, nothing, refused, State}
 use Rattle.logic.specs.Outcome as outcome
 use Rattle.logic.specs.Answer.{Refusal}
 use Rattle.logic.specs.Search.{as_stated}
-use Rattle.logic.specs.LimitsLaws.{no_limit_met_asking}
-use Rattle.logic.specs.Found.{Of, ask_builds}
+use Rattle.logic.proofs.LimitsLaws.{no_limit_met_asking}
+use Rattle.logic.proofs.Found.{Of, ask_builds}
 use Rattle.logic.specs.Built.{Built}
-use Rattle.logic.specs.Demand3.{good}
-use Rattle.logic.specs.ShapeFound.{found_verifies_strictly}
+use Rattle.logic.proofs.Demand3.{good}
+use Rattle.logic.proofs.ShapeFound.{found_verifies_strictly}
 use Rattle.wire.specs.Write.{write_node, write_tree}
 use Rattle.wire.specs.Read as wire
 use Rattle.wire.specs.Fits.{Bytes, NodesFew}
-use Rattle.wire.specs.QuestionBytes.{write_read_question}
-use Rattle.wire.specs.TreeBytes.{read_write_tree}
-use Rattle.wire.specs.FoundFits.{found_fits}
+use Rattle.wire.proofs.QuestionBytes.{write_read_question}
+use Rattle.wire.proofs.TreeBytes.{read_write_tree}
+use Rattle.wire.proofs.FoundFits.{found_fits}
 use Rattle.question.specs.Answers.{turned}
 use Rattle.question.specs.OneSidedLaws.{turned_fits}
 use Rattle.failures.specs.AlikeLaws.{alike_sym, alike_trans}

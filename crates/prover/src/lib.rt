@@ -1,5 +1,7 @@
 // The public call `prove` (search.rs: `Prover::prove`): a question in bytes, a lent memory, and a tree in bytes. Any bytes, settings and words may be lent; the answers are document 01's, in its
 // order: 11, 12, reading, then what the search answers.
+#![tactic(auto)]
+
 ghost use Rattle.std.specs.Prelude.{◌≡◌};
 ghost use Rattle.held.specs.Answers.{Tells};
 ghost use Rattle.search.specs.Asked.{Asked};
@@ -16,7 +18,7 @@ use search::{Outcome, Prover};
 use zones::Zones;
 
 // What `prove` answers: how many bytes of a tree stand in the front of the output; that none was found; or a refusal.
-#[derive(Drop)]
+#[derive(Clone, Copy)]
 pub enum Answer {
     Found(usize, Counters),
     Nothing(Counters),

@@ -9,8 +9,8 @@ use Rattle.logic.specs.Sequent.{Question, one_sided, two_sided}
 use Rattle.wire.specs.Write.{two_bytes, write_formulas, write_zone, message, write_body, write_question}
 use Rattle.wire.specs.Read.{Read, got, refused, read_question}
 use Rattle.wire.specs.Fits.{Bytes, first_zone, second_zone}
-use Rattle.wire.specs.ZoneBytes.{read_write_all}
-use Rattle.wire.specs.QuestionBytes.{write_read_question}
+use Rattle.wire.proofs.ZoneBytes.{read_write_all}
+use Rattle.wire.proofs.QuestionBytes.{write_read_question}
 use Rattle.question.specs.declared.Places.{Places}
 use Rattle.question.specs.declared.Question.TheVariants.{Whole}
 use Rattle.question.specs.Answers.{kind_of, zone_size, places_of, answered}

@@ -7,13 +7,13 @@ use native.Mathlib.Omega.{arith}
 use Rattle.std.proofs.Math.Seq.{slice, sets, length-sets, length-slice}
 use Rattle.std.proofs.lemmas.List.Edits.{sets-eq}
 use Rattle.logic.specs.Formula.{Formula, negate, size}
-use Rattle.logic.specs.FormulaLaws.{size_positive, negate_size}
+use Rattle.logic.proofs.FormulaLaws.{size_positive, negate_size}
 use Rattle.wire.specs.Write.{write_formula, write_formulas}
 use Rattle.wire.specs.Read.{got, read_formula, highest_formula, read_all}
 use Rattle.wire.specs.Fits.{FormulaFits, FormulasFit}
-use Rattle.wire.specs.FormulaBytes.{length_write, read_write}
-use Rattle.wire.specs.MessageBytes.{read_write_one}
-use Rattle.wire.specs.ZoneBytes.{length_write_formulas, write_formulas_append, write_formulas_one, drop_split}
+use Rattle.wire.proofs.FormulaBytes.{length_write, read_write}
+use Rattle.wire.proofs.MessageBytes.{read_write_one}
+use Rattle.wire.proofs.ZoneBytes.{length_write_formulas, write_formulas_append, write_formulas_one, drop_split}
 use Rattle.formula.specs.Answers.{reads}
 use Rattle.formula.specs.Calls.{left_in, Writes}
 use Rattle.formula.specs.RewritingLaws.{sets_append}

@@ -14,8 +14,8 @@ use Rattle.logic.specs.Sequent.{Question, one_sided, two_sided, to_one_sided}
 use Rattle.wire.specs.Write.{write_formulas, write_body, write_question}
 use Rattle.wire.specs.Read.{Read, got, refused, read_question}
 use Rattle.wire.specs.Fits.{Bytes, FormulasFit, first_zone, QuestionFits}
-use Rattle.wire.specs.FoundFits.{negate_fits}
-use Rattle.wire.specs.QuestionBytes.{read_write_question, write_read_question}
+use Rattle.wire.proofs.FoundFits.{negate_fits}
+use Rattle.wire.proofs.QuestionBytes.{read_write_question, write_read_question}
 use Rattle.formula.specs.Answers.{coded}
 use Rattle.formula.specs.declared.Refusal as refusal
 use Rattle.formula.specs.declared.Refusal.TheVariants.{OutputShort}

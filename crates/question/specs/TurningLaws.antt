@@ -15,7 +15,7 @@ use Rattle.question.specs.Answers.{kind_of, zone_size, places_of, turned, turned
 use Rattle.question.specs.Found.{Cut, Found}
 use Rattle.question.specs.FoundLaws.{laid_out, question_length, body_length, found_at}
 use Rattle.question.specs.Negating.{negated, Negatable}
-use Rattle.wire.specs.ZoneBytes.{write_formulas_append}
+use Rattle.wire.proofs.ZoneBytes.{write_formulas_append}
 use Rattle.question.specs.NegatingLaws.{negate_zone_size}
 use Rattle.question.specs.Turning.{head_of, TwoSided}
 

@@ -6,13 +6,13 @@ use borrow.Author.Tests.{le-leb, lt-leb}
 use Rattle.std.proofs.Math.ListN.{length}
 use Rattle.std.proofs.Math.Seq.{slice, length-slice}
 use Rattle.logic.specs.Formula.{Formula}
-use Rattle.logic.specs.FormulaLaws.{size_positive}
+use Rattle.logic.proofs.FormulaLaws.{size_positive}
 use Rattle.logic.specs.Sequent.{Question}
 use Rattle.wire.specs.Read.{Read, got, refused, ◌then◌, read_all, most_formulas}
 use Rattle.wire.specs.Fits.{Bytes, first_zone, second_zone}
 use Rattle.wire.specs.FitsLaws.{bytes_drop, bytes_take}
-use Rattle.wire.specs.GivesLaws.{when_got}
-use Rattle.wire.specs.ZoneBytes.{all_gives, length_write_formulas}
+use Rattle.wire.proofs.GivesLaws.{when_got}
+use Rattle.wire.proofs.ZoneBytes.{all_gives, length_write_formulas}
 use Rattle.formula.specs.Answers.{coded}
 use Rattle.formula.specs.declared.Refusal as refusal
 use Rattle.formula.specs.declared.Refusal.TheVariants.{TooMany}

@@ -1,6 +1,8 @@
 // Questions in bytes (document 01, "Bytes"): where a question's zones stand, with the refusals of reading in their order, and sequent.rs's `to_one_sided`.
 //
 // A question is a message (the version 1, the length of all that follows), a kind and two zones. Every call takes any bytes whatever.
+#![tactic(auto)]
+
 ghost use Rattle.std.specs.Prelude.{◌≡◌, ◌⊎◌, ◌+◌, ◌-◌, ◌≤◌, ◌<◌, length, drop};
 ghost use Rattle.std.proofs.Math.Seq.{slice};
 ghost use Rattle.std.proofs.lemmas.List.Edits.{sets};
@@ -26,7 +28,7 @@ pub const MOST_FORMULAS: usize = 31;
 pub const FIRST: usize = 6;
 
 // Where a question's zones stand: the bytes of each zone's formulas, from one place up to another, and how many formulas these are.
-#[derive(Drop)]
+#[derive(Clone, Copy)]
 pub struct Places {
     pub kind: u8,
     pub first: usize,
@@ -38,14 +40,14 @@ pub struct Places {
 }
 
 // What `read_question` answers.
-#[derive(Drop)]
+#[derive(Clone, Copy)]
 pub enum Question {
     Whole(Places),
     Refused(Refusal),
 }
 
 // A question's kind, or why its bytes are refused up to there.
-#[derive(Drop)]
+#[derive(Clone, Copy)]
 enum Kind {
     Is(u8),
     Refused(Refusal),
@@ -200,7 +202,8 @@ fn copy_from(s: &[u8], from: usize, out: &mut [u8], at: usize)
     requires { (from ≤ length s.now) × (at + (length s.now - from) ≤ length out.old) }
     ensures { out.new ≡ sets out.old at (drop from s.now) }
 {
-    bytes::copy(&s[from..], &mut out[at..]);
+    let end = at + (s.len() - from);
+    out[at..end].copy_from_slice(&s[from..]);
 }
 
 // A two-sided question written one-sided: antecedents negated in their places, the succedent behind them with no length between, and an empty zone.
@@ -226,8 +229,9 @@ pub fn to_one_sided(s: &[u8], out: &mut [u8]) -> Written
                 return Written::Refused(Refusal::OutputShort);
             }
             if places.kind == ONE_SIDED {
-                bytes::copy(s, out);
-                return Written::Bytes(s.len());
+                let n = s.len();
+                out[..n].copy_from_slice(s);
+                return Written::Bytes(n);
             }
             turn(s, places.first_end, out);
             Written::Bytes(s.len())

@@ -7,7 +7,7 @@ use native.Mathlib.Numerals.{add-one}
 use lib.ListN.{length}
 use Rattle.logic.specs.Outcome.{Memory, start}
 use Rattle.logic.specs.Search.{prove}
-use Rattle.logic.specs.Counters.{prove_within}
+use Rattle.logic.proofs.Counters.{prove_within}
 use Rattle.zones.specs.declared.Zones.{Zones}
 use Rattle.held.specs.Words as formulas
 use Rattle.failures.specs.FailedLaws.{failed_length}

@@ -10,7 +10,7 @@ use lib.ListN.{length, take, drop}
 use borrow.Author.Tests.{eq-eqb}
 use Rattle.logic.specs.Formula as formula
 use Rattle.logic.specs.Formula.{Formula, Atom, NegAtom, among}
-use Rattle.logic.specs.FormulaLaws.{same_self}
+use Rattle.logic.proofs.FormulaLaws.{same_self}
 use Rattle.logic.specs.Sequent.{Sequent, ◌﹔◌}
 use Rattle.logic.specs.Tree.{Axiom, OneIntro, OfCourseIntro, PlusIntroLeft, PlusIntroRight, TensorIntro, node, ∅}
 use Rattle.logic.specs.Outcome as logic

@@ -14,13 +14,13 @@ use types.Run.{OneOf, miss}
 use denote.Enum.Declared.{tag_of}
 use Rattle.logic.specs.Formula as formula
 use Rattle.logic.specs.Formula.{Formula, NegAtom, Atom, among}
-use Rattle.logic.specs.FormulaLaws.{different_same}
+use Rattle.logic.proofs.FormulaLaws.{different_same}
 use Rattle.logic.specs.Sequent.{Sequent}
 use Rattle.logic.specs.Outcome as logic
 use Rattle.logic.specs.Outcome.{Search, if◌then◌else◌}
 use Rattle.logic.specs.Search.{prove_focused}
 use Rattle.logic.specs.Built.{decomposable, Passed}
-use Rattle.logic.specs.Found.{passed_snoc}
+use Rattle.logic.proofs.Found.{passed_snoc}
 use Rattle.zones.specs.declared.Zones.{Zones}
 use Rattle.zones.specs.Zones.{Fits, Made, remove, meant, linears, unrestricteds, pushed, without, without_unrestricted}
 use Rattle.zones.specs.ZonesLaws.{linears_length, unrestricteds_length, meant_made, meant_copied, meant_copied_two, within_made, within_unrestricted, remove_length}

@@ -13,7 +13,7 @@ use Rattle.logic.specs.Formula.{Formula, negate, spell}
 use Rattle.logic.specs.Sequent.{Sequent, ◌﹔◌}
 use Rattle.logic.specs.Answer as answer
 use Rattle.logic.specs.Tree.{Rule, ParIntro, BottomIntro, TopIntro, WithIntro, WhyNotIntro, node, ∅}
-use Rattle.logic.specs.ZoneLaws.{total_at}
+use Rattle.logic.proofs.ZoneLaws.{total_at}
 use Rattle.logic.specs.Limits.{at_most}
 use Rattle.logic.specs.Outcome as logic
 use Rattle.logic.specs.Outcome.{Search, made}

@@ -21,7 +21,7 @@ use Rattle.zones.specs.Zones.{Fits, meant, linears, unrestricteds}
 use Rattle.zones.specs.ZonesLaws.{linears_length, unrestricteds_length}
 use Rattle.failures.specs.Alike.{Alike}
 use Rattle.failures.specs.AlikeLaws.{alike_length, alike_snoc, contains_alike}
-use Rattle.logic.specs.SameLaws.{same_of}
+use Rattle.logic.proofs.SameLaws.{same_of}
 use Rattle.memory.specs.Meaning.{holds, failed, told}
 use Rattle.memory.specs.Shapes.{Filed, was_known, is_new, Recorded, NoPlace, Spelled, NoRoom}
 use Rattle.search.specs.declared.Prover.{Prover}

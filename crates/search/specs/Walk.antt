@@ -12,7 +12,7 @@ use Rattle.std.proofs.Math.Dec.{eqb}
 use Rattle.std.proofs.Math.Seq.{take-suc, drop-cons}
 use borrow.Author.Tests.{le-ltb, lt-ltb, eqb-true}
 use Rattle.logic.specs.Formula.{Formula, One, Bottom, Top, Zero, Atom, NegAtom, Tensor, Par, With, Plus, Lolli, OfCourse, WhyNot, among, same, is_positive}
-use Rattle.logic.specs.FormulaLaws.{same_iff, same_self}
+use Rattle.logic.proofs.FormulaLaws.{same_iff, same_self}
 use Rattle.logic.specs.Sequent.{Sequent, ◌﹔◌, count}
 use Rattle.logic.specs.Tree.{TensorIntro, Axiom, Tree, node, ∅}
 use Rattle.logic.specs.Answer.{too_many, held_full, budget_spent, failures_full}
@@ -23,7 +23,7 @@ use Rattle.logic.specs.Limits.{at_most, exceeds}
 use Rattle.logic.specs.Outcome.{Outcome, found, nothing, refused, State, Search, answer, if◌then◌else◌, or_next, ◌or_else◌, visited, hit, with_failure, with_held, record_failure, made}
 use Rattle.logic.specs.Search.{Settings, as_stated, from_two, if_so, each, tensor_masks, prove_focused, try_axiom, try_dereliction, try_contraction, try_weakening, prove_sync, async_from, unless_empty, prove_async, entered, remembered, prove_with_depth}
 use Rattle.logic.specs.Built.{decomposable, Passed, none_yet, and_passed}
-use Rattle.logic.specs.Ring.{ring, ring_over}
+use Rattle.logic.proofs.Ring.{ring, ring_over}
 
 -- A loop over a zone, from the place i on
 module _ (body : List Formula → Formula → List Formula → Search) (l : List Formula) (i : ℕ) where

@@ -1,4 +1,6 @@
 // The search of search.rs over a lent memory: `Prover`, its counters and its ring.
+#![tactic(auto)]
+
 pub mod counters; // counters.rt: `ProverStats`, by value
 pub mod plan; // plan.rt: which rule comes next, and on what
 pub mod ring; // ring.rt: visit, decomposition, focusing and the unrestricted rules, which call one another
@@ -11,7 +13,7 @@ use formula::Refusal;
 use zones::Zones;
 
 // What a search answers: a tree, as the words of its nodes, up to the next free word of the work slice; none; or a refusal.
-#[derive(Drop)]
+#[derive(Clone, Copy)]
 pub enum Outcome {
     Found(usize, Counters),
     Nothing(Counters),
@@ -19,7 +21,7 @@ pub enum Outcome {
 }
 
 // search.rs: `Prover`. The failures stand in the lent memory.
-#[derive(Drop)]
+#[derive(Clone, Copy)]
 pub struct Prover {
     pub limit: usize,
     pub budget: usize,

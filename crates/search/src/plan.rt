@@ -11,7 +11,7 @@ use memory::shape::{Shape, shape_at};
 use zones::Zones;
 
 // search.rs: `prove_async`: the first decomposable formula from the left, its place and its parts.
-#[derive(Drop)]
+#[derive(Clone, Copy)]
 pub enum Plan {
     Empty,
     Par(usize, u16, u16),
@@ -61,7 +61,7 @@ pub fn first_plan(mem: &[u16], z: Zones) -> Plan
 }
 
 // search.rs: `prove_focused`: what focusing on a formula gives.
-#[derive(Drop)]
+#[derive(Clone, Copy)]
 pub enum Focus {
     Axiom,
     One,
@@ -111,7 +111,7 @@ pub fn focus_on(mem: &[u16], z: Zones, i: usize) -> Focus
 }
 
 // The rules on the unrestricted zone. All three take the formula out; the first adds one copy, the second two.
-#[derive(Drop)]
+#[derive(Clone, Copy)]
 pub enum Exponential {
     Dereliction,
     Contraction,

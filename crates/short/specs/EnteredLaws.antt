@@ -3,7 +3,7 @@ use Rattle.std.specs.Prelude.{◌≡◌, refl, Bool, true, false, List, [], ◌�
 use Rattle.std.proofs.Common.{ap, ◌∙◌, inl, inr}
 use Rattle.std.proofs.lemmas.Bool.{false≢true}
 use Rattle.logic.specs.Formula.{Formula, One, Bottom, Top, Zero, Atom, NegAtom, Tensor, Par, With, Plus, Lolli, OfCourse, WhyNot, same, among}
-use Rattle.logic.specs.FormulaLaws.{same_iff, same_self}
+use Rattle.logic.proofs.FormulaLaws.{same_iff, same_self}
 use Rattle.logic.specs.Parts.{left_part, right_part}
 use Rattle.logic.specs.Sequent.{Question, one_sided, two_sided}
 use Rattle.logic.specs.Held.{add, enter, enter_all, enter_question}

@@ -9,7 +9,7 @@ use Prim.Native.Nat.{ℕ, zero, suc, ◌+◌, ◌≤◌, ◌<◌, ◌^◌}
 use Rattle.std.proofs.Math.Nat.{one-le-pow, pow-le-pow_right}
 use Rattle.std.proofs.Math.ListN.{length}
 use Rattle.logic.specs.Formula.{Formula, same}
-use Rattle.logic.specs.FormulaLaws.{same_iff}
+use Rattle.logic.proofs.FormulaLaws.{same_iff}
 use Rattle.logic.specs.Sequent.{Sequent, count}
 use Rattle.logic.specs.Conclusion.{concluded}
 use Rattle.logic.specs.Tree.{

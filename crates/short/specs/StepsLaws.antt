@@ -8,9 +8,9 @@ use Rattle.std.proofs.Math.ListN.{length, get_or-eq_default}
 use Rattle.std.proofs.Math.Seq.{split_at, take-append_seam, get_or-append_seam}
 use borrow.Author.Tests.{eqb-true, eqb-false, ltb-true, ltb-false, not-true, lt-ltb, eq-eqb, ne_eqb}
 use Rattle.logic.specs.Formula.{Formula, One, Bottom, Top, Zero, Atom, NegAtom, Tensor, Par, With, Plus, Lolli, OfCourse, WhyNot, same, negate, spell}
-use Rattle.logic.specs.FormulaLaws.{same_iff}
+use Rattle.logic.proofs.FormulaLaws.{same_iff}
 use Rattle.logic.specs.Parts.{tag_of, left_part, right_part, is_literal, make, signs, signed}
-use Rattle.logic.specs.PartsLaws.{by_tag}
+use Rattle.logic.proofs.PartsLaws.{by_tag}
 use Rattle.logic.specs.Sequent.{Sequent, ◌﹔◌}
 use Rattle.logic.specs.Split.{left_of, right_of}
 use Rattle.logic.specs.Conclusion.{spell_first, concluded}

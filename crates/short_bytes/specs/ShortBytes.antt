@@ -34,10 +34,10 @@ use Rattle.wire.specs.Write.{two_bytes, message, write_rule, write_node, write_t
 use Rattle.wire.specs.Read.{Read, got, refused, ◌then◌, unless, entry, read_byte, read_two, at_end, read_message, highest_tree, read_tree}
 use Rattle.wire.specs.Fits.{Bytes, FormulaRefusal, cut_short, too_tall, ReadRefusal, unknown_number, in_formula}
 use Rattle.wire.specs.FitsLaws.{bytes_nil, bytes_cons, bytes_append, bytes_head, bytes_tail, bytes_left_over, bytes_two}
-use Rattle.wire.specs.FormulaBytes.{read_write_two, byte_gives, two_gives}
-use Rattle.wire.specs.MessageBytes.{in_reading, read_write_message, message_gives}
+use Rattle.wire.proofs.FormulaBytes.{read_write_two, byte_gives, two_gives}
+use Rattle.wire.proofs.MessageBytes.{in_reading, read_write_message, message_gives}
 use Rattle.wire.specs.Gives.{Gives, AllAt, ◌&◌}
-use Rattle.wire.specs.GivesLaws.{gives_got, gives_refused, gives_map, gives_then, gives_entry, gives_end, when_got, when_refused}
+use Rattle.wire.proofs.GivesLaws.{gives_got, gives_refused, gives_map, gives_then, gives_entry, gives_end, when_got, when_refused}
 use Rattle.short_bytes.specs.Write.{four_bytes, has_mask, write_mask, write_short_node, write_short_nodes, message_two, write_short}
 use Rattle.short_bytes.specs.Read.{read_four, short_rules, read_mask, read_short_premises, read_short_node, version_down, read_message_two, read_short}
 use Rattle.short_bytes.specs.Fits.{HasShort, MaskFits, ShortNodesFit, ShortNodesFit*, ShortFits, ShortNodeBack, ShortPremisesBack, MessageTwoBack, ShortBack, ShortRuleWritten}

@@ -6,7 +6,7 @@ use Rattle.logic.specs.Tree.{Rule}
 use Rattle.logic.specs.Answer.{wrong_number}
 use Rattle.wire.specs.Read.{Read, got, refused, ◌then◌, read_byte, read_two}
 use Rattle.wire.specs.Gives.{AllAt}
-use Rattle.wire.specs.GivesLaws.{gives_got, gives_refused, gives_then, gives_map, gives_entry}
+use Rattle.wire.proofs.GivesLaws.{gives_got, gives_refused, gives_then, gives_map, gives_entry}
 use Rattle.tree.specs.EndsLaws.{Ends, LeavesEnd}
 use Rattle.short.specs.Short.{Short, follow}
 use Rattle.short_bytes.specs.Write.{has_mask}

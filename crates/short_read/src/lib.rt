@@ -1,5 +1,7 @@
 // Short trees in bytes (document 02, 11/12): version byte 2, two-byte length, then nodes in preorder: rule, place, and at TensorIntro a mask of four bytes.
 // Reading with its refusals, and what a node says.
+#![tactic(auto)]
+
 ghost use Rattle.std.specs.Prelude.{◌≡◌, ◌+◌, ◌*◌, ◌≤◌, ◌<◌, length, get_or, drop};
 ghost use Rattle.short_bytes.specs.Read.{read_short_node, read_short};
 ghost use Rattle.short_read.specs.Reading.{premises_by, node_bytes, short_read, four, HeadRead};
@@ -12,7 +14,7 @@ pub const VERSION: u8 = 2;
 pub const TENSOR_INTRO: u8 = 4;
 
 // A tree read: the place after its last node.
-#[derive(Drop)]
+#[derive(Clone, Copy)]
 pub enum Subtree {
     Next(usize),
     Refused(Refusal),

@@ -8,7 +8,7 @@ use Rattle.logic.specs.Sequent.{Sequent, Question, to_one_sided}
 use Rattle.logic.specs.Held.{enter_question}
 use Rattle.wire.specs.Read as wire
 use Rattle.wire.specs.Fits.{Bytes}
-use Rattle.wire.specs.TreeBytes.{write_read_tree}
+use Rattle.wire.proofs.TreeBytes.{write_read_tree}
 use Rattle.formula.specs.Answers.{coded}
 use Rattle.formula.specs.declared.Refusal.{Refusal}
 use Rattle.formula.specs.declared.Refusal.TheVariants.{HeldFull}

@@ -2,7 +2,7 @@
 use Rattle.std.specs.Prelude.{◌≡◌, List, [], ℕ, length, take, drop}
 use Rattle.logic.specs.Sequent.{Question, to_one_sided}
 use Rattle.logic.specs.Tree.{Tree}
-use Rattle.logic.specs.Demand3.{Good}
+use Rattle.logic.proofs.Demand3.{Good}
 use Rattle.logic.specs.Verify.{accepted}
 use Rattle.logic.specs.Strict.{verify_strict}
 use Rattle.wire.specs.Write.{write_tree}

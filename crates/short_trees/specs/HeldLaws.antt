@@ -5,9 +5,9 @@ use Rattle.std.proofs.Common.{sym, ap, ◌∙◌, arith}
 use Rattle.std.proofs.lemmas.Bool.{false≢true}
 use borrow.Author.Tests.{le-ltb}
 use Rattle.logic.specs.Formula.{Formula, One, same, among}
-use Rattle.logic.specs.FormulaLaws.{same_iff}
+use Rattle.logic.proofs.FormulaLaws.{same_iff}
 use Rattle.logic.specs.Parts.{left_part, right_part, signs, make}
-use Rattle.logic.specs.PartsLaws.{leaf_tags, unary_tags, left_make, right_make}
+use Rattle.logic.proofs.PartsLaws.{leaf_tags, unary_tags, left_make, right_make}
 use Rattle.logic.specs.Limits.{at_most, exceeds}
 use Rattle.held.specs.Words.{at, count, view, Row, unit, name, two, one, Wf, Extends}
 use Rattle.held.specs.WordsLaws.{held_length, held_node, among_true, keeps}

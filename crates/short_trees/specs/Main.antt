@@ -7,7 +7,7 @@ use Rattle.logic.specs.Tree.{Tree}
 use Rattle.logic.specs.Answer.{wrong_number}
 use Rattle.logic.specs.Built.{Built}
 use Rattle.logic.specs.Search.{as_stated}
-use Rattle.logic.specs.Found.{Of, ask_builds}
+use Rattle.logic.proofs.Found.{Of, ask_builds}
 use Rattle.wire.specs.Read.{got, refused, read_question, read_tree}
 use Rattle.wire.specs.Fits.{Bytes}
 use Rattle.search.specs.declared.counters.Counters.{Counters}

@@ -41,14 +41,14 @@ use Rattle.logic.specs.Tree.{
 use Rattle.logic.specs.Answer as answer
 use Rattle.logic.specs.Held.{enter_question}
 use Rattle.logic.specs.Built.{Built}
-use Rattle.logic.specs.Demand3.{good}
-use Rattle.logic.specs.ShapeFound.{found_verifies_strictly}
+use Rattle.logic.proofs.Demand3.{good}
+use Rattle.logic.proofs.ShapeFound.{found_verifies_strictly}
 use Rattle.wire.specs.Write.{write_tree}
 use Rattle.wire.specs.Read as wire
 use Rattle.wire.specs.Fits.{Bytes, NodesFit, NodesFit*, NodesFew, NodesFew*}
-use Rattle.wire.specs.QuestionBytes.{write_read_question}
-use Rattle.wire.specs.TreeBytes.{read_write_tree, write_read_tree}
-use Rattle.wire.specs.FoundFits.{found_fits}
+use Rattle.wire.proofs.QuestionBytes.{write_read_question}
+use Rattle.wire.proofs.TreeBytes.{read_write_tree, write_read_tree}
+use Rattle.wire.proofs.FoundFits.{found_fits}
 use Rattle.question.specs.Answers.{turned}
 use Rattle.question.specs.OneSidedLaws.{turned_fits}
 use Rattle.failures.specs.AlikeLaws.{alike_of}

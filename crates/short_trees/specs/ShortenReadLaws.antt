@@ -7,7 +7,7 @@ use mathlib.Core.List.{List, [], ◌∷◌, ◌++◌}
 use Rattle.std.proofs.Math.ListN.{length}
 use Rattle.std.proofs.lemmas.List.Edits.{sets}
 use Rattle.logic.specs.Formula.{Formula, One, Bottom, Top, Zero, Atom, NegAtom, Tensor, Par, With, Plus, Lolli, OfCourse, WhyNot, spell}
-use Rattle.logic.specs.FormulaLaws.{spell_twice}
+use Rattle.logic.proofs.FormulaLaws.{spell_twice}
 use Rattle.logic.specs.Sequent.{Sequent, ◌﹔◌}
 use Rattle.logic.specs.Tree.{Tree, node, conclusion}
 use Rattle.logic.specs.Answer.{wrong_number, wrong_length, wrong_tag, too_high, too_many, held_full, budget_spent, failures_full, output_short, wrong_setting, wrong_memory}
@@ -17,7 +17,7 @@ use Rattle.wire.specs.Write.{two_bytes, write_node, message, write_tree}
 use Rattle.wire.specs.Read as wire
 use Rattle.wire.specs.Read.{read_tree}
 use Rattle.wire.specs.Fits.{NodesFit}
-use Rattle.wire.specs.TreeBytes.{write_read_tree}
+use Rattle.wire.proofs.TreeBytes.{write_read_tree}
 use Rattle.formula.specs.Answers.{coded}
 use Rattle.formula.specs.declared.Refusal.TheVariants.{HeldFull, OutputShort}
 use Rattle.tree.specs.Stands.{Stands}

@@ -1,5 +1,7 @@
 // The public calls of short trees (document 02, 11/12): `shorten` a found tree against its question, and `expand` a short tree against its question. Any bytes and words may be lent. The answers
 // in their order: 12; the question's 2 to 6 and its 7; the message's reading; then node by node 7, 15 and 6; 10 last.
+#![tactic(auto)]
+
 ghost use Rattle.std.specs.Prelude.{◌≤◌};
 ghost use Rattle.held.specs.Words.{count, Wf};
 ghost use Rattle.short_trees.specs.Promise.{call_of, left_of, expanding, shortening, Expands, Shortens};
@@ -20,7 +22,7 @@ use tree::read_tree;
 use zones::Zones;
 
 // What both calls answer: how many bytes stand in the front of the output; that the tree is none that the search's rules build for the question (15); or a refusal.
-#[derive(Drop)]
+#[derive(Clone, Copy)]
 pub enum Answer {
     Written(usize),
     Mismatch,

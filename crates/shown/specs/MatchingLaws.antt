@@ -5,9 +5,9 @@ use Rattle.std.proofs.Common.{sym, ap₂, ◌∙◌, arith, div-add-mod'}
 use Prim.Native.Nat.{ℕ, suc, ◌+◌, ◌*◌, ◌/◌, ◌%◌, ◌≤◌, ◌<◌, min}
 use borrow.Author.Tests.{ne_eqb, eq-eqb}
 use Rattle.logic.specs.Formula.{Formula, same, size}
-use Rattle.logic.specs.FormulaLaws.{same_iff, same_false, size_positive}
+use Rattle.logic.proofs.FormulaLaws.{same_iff, same_false, size_positive}
 use Rattle.logic.specs.Parts.{tag_of, signs, make}
-use Rattle.logic.specs.PartsLaws.{name_tags, binary_tags, unary_tags, tag_make}
+use Rattle.logic.proofs.PartsLaws.{name_tags, binary_tags, unary_tags, tag_make}
 use Rattle.wire.specs.Write.{two_bytes, write_formula}
 use Rattle.tree.specs.Stands.{Stands}
 use Rattle.tree.specs.StandsLaws.{stands_head, stands_tail}

@@ -8,13 +8,13 @@ use Rattle.std.proofs.Math.ListN.{drop, get_or-map}
 use Rattle.std.proofs.lemmas.List.{length-map}
 use Rattle.std.proofs.Math.Seq.{drop-length}
 use Rattle.logic.specs.Formula.{Formula, One, same}
-use Rattle.logic.specs.FormulaLaws.{same_symmetric, size_positive}
+use Rattle.logic.proofs.FormulaLaws.{same_symmetric, size_positive}
 use Rattle.logic.specs.Sequent.{Sequent}
 use Rattle.logic.specs.Tree.{node}
 use Rattle.logic.specs.Built.{decomposable}
 use Rattle.logic.specs.Conclusion.{spell_first, concluded}
 use Rattle.wire.specs.Write.{write_formula, write_formulas}
-use Rattle.wire.specs.FormulaBytes.{length_write}
+use Rattle.wire.proofs.FormulaBytes.{length_write}
 use Rattle.tree.specs.Places.{Holds, NodeFound}
 use Rattle.tree.specs.FormulaPlaces.{First, holds_first, holds_none}
 use Rattle.tree.specs.declared.Span.{Span}

@@ -1,4 +1,6 @@
 // Held formulas compared with formulas in bytes, and a sequent of held formulas with a node's zones.
+#![tactic(auto)]
+
 ghost use Rattle.std.specs.Prelude.{◌≡◌, ◌≤◌, ◌<◌, length};
 ghost use Rattle.held.specs.Words.{count, Wf};
 ghost use Rattle.tree.specs.Places.{Within};
@@ -12,14 +14,14 @@ use tree::{Span, node_at};
 use zones::Zones;
 
 // A comparison: the place after the formula, where it is the same.
-#[derive(Drop)]
+#[derive(Clone, Copy)]
 pub enum Matched {
     Same(usize),
     Different,
 }
 
 // What is known at the tags: the comparison, or that one part or two are still to be compared.
-#[derive(Drop)]
+#[derive(Clone, Copy)]
 pub enum Tops {
     Told(Matched),
     One,

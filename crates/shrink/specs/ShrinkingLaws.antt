@@ -42,7 +42,7 @@ use Rattle.logic.specs.Tree.{
   premise_count,
 }
 use Rattle.wire.specs.Write.{write_zone, write_rule, write_node, write_nodes}
-use Rattle.wire.specs.ZoneBytes.{length_write_zone}
+use Rattle.wire.proofs.ZoneBytes.{length_write_zone}
 use Rattle.wire.specs.Fits.{NodesFit, NodesFit*}
 use Rattle.formula.specs.RewritingLaws.{sets_append}
 use Rattle.tree.specs.Stands.{Stands}

@@ -1,4 +1,6 @@
 // A full tree shortened against the sequent that it is to conclude (crates/short/specs/Shortening.antt: `shorten`).
+#![tactic(auto)]
+
 ghost use Rattle.std.specs.Prelude.{◌≡◌, ◌+◌, ◌≤◌, ◌<◌, length};
 ghost use Rattle.short_bytes.specs.Write.{four_bytes};
 ghost use Rattle.expand.specs.Writing.{Wrote};
@@ -14,7 +16,7 @@ use tree::node_at;
 use zones::Zones;
 
 // A part of the tree shortened: the places after it in the full message and in the short one. Or why there is none: 7, 15.
-#[derive(Drop)]
+#[derive(Clone, Copy)]
 pub enum Shrunk {
     Whole { next: usize, to: usize },
     Full,

@@ -8,9 +8,9 @@ use mathlib.Core.List.{List, [], ◌∷◌, ◌++◌, map}
 use Rattle.std.proofs.Math.ListN.{length, length-append}
 use borrow.Author.Tests.{eqb-true, ltb-true, ltb-false, eq-eqb, le-ltb}
 use Rattle.logic.specs.Formula.{Formula, One, same, spell}
-use Rattle.logic.specs.FormulaLaws.{same_iff}
+use Rattle.logic.proofs.FormulaLaws.{same_iff}
 use Rattle.logic.specs.Parts.{tag_of, left_part, right_part, make}
-use Rattle.logic.specs.PartsLaws.{tag_make, left_make, right_make}
+use Rattle.logic.proofs.PartsLaws.{tag_make, left_make, right_make}
 use Rattle.logic.specs.Sequent.{Sequent, ◌﹔◌, count}
 use Rattle.logic.specs.Split.{keep, left_of, right_of}
 use Rattle.logic.specs.Limits.{at_most, exceeds}

@@ -1,4 +1,6 @@
 // The least place, then the least mask, of a tensor whose premises stand in a tree. No mask is tried: the formulas of both premises but for their last ones are numbered, and dealt out.
+#![tactic(auto)]
+
 ghost use Rattle.std.specs.Prelude.{◌≤◌, length};
 ghost use Rattle.expand.specs.Writing.{Sound};
 ghost use Rattle.split.specs.Splitting.{Labelled, Labelling, LabelledTo, TensorAt, TensorOf, Splitting, SplitTo, LeastStep};
@@ -14,21 +16,21 @@ use tree::{Span, after_tree, next_formula, node_at};
 use zones::Zones;
 
 // The least place and the least mask there; or none fits.
-#[derive(Drop)]
+#[derive(Clone, Copy)]
 pub enum Least {
     At(usize, usize),
     Nowhere,
 }
 
 // The number of a linear formula that stands at a place of the message.
-#[derive(Drop)]
+#[derive(Clone, Copy)]
 pub enum Label {
     Of(u16),
     None,
 }
 
 // The formulas of a zone but for the last, by number, and the place of the last; or one of them is no linear formula of the conclusion, or there is none.
-#[derive(Drop)]
+#[derive(Clone, Copy)]
 pub enum Labels {
     Listed { count: usize, last: usize },
     None,

@@ -11,9 +11,9 @@ use lib.Dec.{eqb, ltb}
 use lib.ListN.{get_or, length, take, drop, length-map, get_or-eq_default}
 use lib.Seq.{get_or-drop, get_or-take, length-take-le}
 use Rattle.logic.specs.Formula.{Formula, One, Bottom, Top, Zero, Atom, NegAtom, Tensor, Par, With, Plus, Lolli, OfCourse, WhyNot, same, negate}
-use Rattle.logic.specs.FormulaLaws.{same_iff, same_self}
+use Rattle.logic.proofs.FormulaLaws.{same_iff, same_self}
 use Rattle.logic.specs.Parts.{tag_of, name_of, is_literal, make}
-use Rattle.logic.specs.PartsLaws.{tag_make, name_make}
+use Rattle.logic.proofs.PartsLaws.{tag_make, name_make}
 use Rattle.logic.specs.Sequent.{Sequent, count}
 use Rattle.logic.specs.Built.{decomposable}
 use Rattle.logic.specs.Tree.{Rule}

@@ -1,4 +1,6 @@
 // The steps of the search's rules over a sequent of held formulas (crates/short/specs/Steps.antt), each by its rule, the place of its principal formula and, for a tensor, the mask of the split.
+#![tactic(auto)]
+
 ghost use Rattle.std.specs.Prelude.{◌≡◌, Bool, ◌+◌, ◌<◌};
 ghost use Rattle.held.specs.Words.{told};
 ghost use Rattle.zones.specs.Zones.{Fits};
@@ -52,7 +54,7 @@ pub const OF_COURSE: usize = 11;
 pub const MOST: usize = 31;
 
 // A sequent whose first decomposable formula is no implication; or no room for the implication spelled out, and the sequent as it was.
-#[derive(Drop)]
+#[derive(Clone, Copy)]
 pub struct Spelt {
     pub full: bool,
     pub zones: Zones,

@@ -5,9 +5,9 @@ use Rattle.std.proofs.Common.{sym, ◌∙◌, arith}
 use Rattle.std.proofs.Math.Path.{ap, ap₂}
 use Rattle.std.proofs.lemmas.List.{map-append}
 use Rattle.logic.specs.Formula.{Formula, Bottom, Tensor, Par, With, Plus, OfCourse, WhyNot, negate, spell, same, among}
-use Rattle.logic.specs.FormulaLaws.{same_iff, different_same, spell_twice}
+use Rattle.logic.proofs.FormulaLaws.{same_iff, different_same, spell_twice}
 use Rattle.logic.specs.Parts.{tag_of, name_of, left_part, right_part, signs, make, signed}
-use Rattle.logic.specs.PartsLaws.{tag_make, by_tag}
+use Rattle.logic.proofs.PartsLaws.{tag_make, by_tag}
 use Rattle.logic.specs.Sequent.{Sequent}
 use Rattle.logic.specs.Key.{same_bag}
 use Rattle.logic.specs.Strict.{spelled, linear_same}

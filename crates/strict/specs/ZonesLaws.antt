@@ -5,12 +5,12 @@ use Rattle.std.proofs.Common.{◌∙◌, map-id, arith, length-append}
 use borrow.Author.Tests.{ne_eqb, ltb-true, ltb-false, lt-ltb}
 use Rattle.logic.specs.Formula.{Formula, One, Bottom, Top, Zero, Atom, NegAtom, Tensor, Par, With, Plus, Lolli, OfCourse, WhyNot, negate, spell, same, among, size}
 use Rattle.logic.specs.Parts.{tag_of, left_part, right_part}
-use Rattle.logic.specs.PartsLaws.{left_make, right_make}
+use Rattle.logic.proofs.PartsLaws.{left_make, right_make}
 use Rattle.logic.specs.Zone.{total}
 use Rattle.logic.specs.Legal.{as_number, times, plain}
 use Rattle.wire.specs.Write.{write_formula, write_formulas}
 use Rattle.wire.specs.Fits.{NamesFit, FormulasFit}
-use Rattle.wire.specs.FormulaBytes.{length_write}
+use Rattle.wire.proofs.FormulaBytes.{length_write}
 use Rattle.tree.specs.Stands.{Stands}
 use Rattle.tree.specs.StandsLaws.{stands_left, stands_right}
 use Rattle.tree.specs.FormulaPlaces.{tag_stands}

@@ -1,5 +1,7 @@
 // Legal steps, document 01: whether a node follows from its premises by its rule. Zones are compared as multisets, the linear zone with each implication at the top of a formula spelled
 // out; the principal formula is looked for at every place of its zone.
+#![tactic(auto)]
+
 ghost use Rattle.std.specs.Prelude.{◌≡◌, ◌≤◌, ◌<◌, length};
 ghost use Rattle.bags.specs.Runs.{Short, RunWithin};
 ghost use Rattle.tree.specs.Places.{Within};
@@ -32,7 +34,7 @@ fn unrestricted(n: Node) -> Run
 }
 
 // A formula of a zone with its parts, spelled out at the top: its tag, the whole, the left part and the right.
-#[derive(Drop)]
+#[derive(Clone, Copy)]
 pub struct Principal {
     pub tag: u8,
     pub whole: Run,

@@ -43,7 +43,7 @@ use Rattle.wire.specs.Read.{
   read_node,
 }
 use Rattle.wire.specs.Gives.{Gives, AllAt}
-use Rattle.wire.specs.GivesLaws.{gives_got, gives_refused, gives_then, gives_map, gives_unless, gives_entry, when_got}
+use Rattle.wire.proofs.GivesLaws.{gives_got, gives_refused, gives_then, gives_map, gives_unless, gives_entry, when_got}
 use Rattle.tree.specs.Head.{Head, read_rule, read_head, node_of}
 use Rattle.tree.specs.HeadLaws.{node_by_head}
 

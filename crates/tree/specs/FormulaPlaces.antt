@@ -5,11 +5,11 @@ use Rattle.std.proofs.Common.{sym, ◌∙◌, arith}
 use mathlib.Core.List.{List, [], ◌∷◌, ◌++◌}
 use Rattle.std.proofs.Math.ListN.{length, length-append}
 use Rattle.logic.specs.Formula.{Formula, One, Bottom, Top, Zero, Atom, NegAtom, Tensor, Par, With, Plus, Lolli, OfCourse, WhyNot, size}
-use Rattle.logic.specs.FormulaLaws.{size_positive}
+use Rattle.logic.proofs.FormulaLaws.{size_positive}
 use Rattle.logic.specs.Parts.{tag_of}
 use Rattle.wire.specs.Write.{two_bytes, write_formula, write_formulas}
 use Rattle.wire.specs.Fits.{FormulasFit}
-use Rattle.wire.specs.FormulaBytes.{length_write}
+use Rattle.wire.proofs.FormulaBytes.{length_write}
 use Rattle.tree.specs.Stands.{Stands}
 use Rattle.tree.specs.StandsLaws.{stands_left, stands_right, stands_head, stands_tail}
 use Rattle.tree.specs.Places.{FormulaAt, Holds}

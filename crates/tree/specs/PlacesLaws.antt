@@ -8,7 +8,7 @@ use native.Mathlib.Omega.{arith}
 use Rattle.std.proofs.Math.ListN.{length, get_or, length-append}
 use Rattle.std.proofs.Math.Seq.{slice, length-slice}
 use Rattle.logic.specs.Formula.{Formula, size}
-use Rattle.logic.specs.FormulaLaws.{size_positive}
+use Rattle.logic.proofs.FormulaLaws.{size_positive}
 use Rattle.logic.specs.Sequent.{Sequent}
 use Rattle.logic.specs.Tree.{
   Rule,
@@ -40,7 +40,7 @@ use Rattle.logic.specs.Tree.{
 use Rattle.wire.specs.Write.{two_bytes, write_formula, write_formulas, write_zone, write_rule, write_node, write_nodes}
 use Rattle.wire.specs.Read.{got, read_formula, highest_formula}
 use Rattle.wire.specs.Fits.{Bytes, FormulaFits, FormulasFit, ZoneFits, RuleFits, NodeFits, NodesFit, NodesFit*}
-use Rattle.wire.specs.FormulaBytes.{length_write, read_write}
+use Rattle.wire.proofs.FormulaBytes.{length_write, read_write}
 use Rattle.formula.specs.Answers.{reads}
 use Rattle.formula.specs.ReadingLaws.{reached}
 use Rattle.formula.specs.declared.Refusal.{Refusal}

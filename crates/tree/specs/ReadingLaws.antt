@@ -11,7 +11,7 @@ use Rattle.std.proofs.Math.Dec.{eqb}
 use Rattle.std.proofs.Math.ListN.{length, get_or, take, drop, length-drop}
 use Rattle.std.proofs.Math.Seq.{slice, slice_empty, slice-cons, length-slice, drop-drop, drop-append_seam, drop-length, take-length}
 use Rattle.logic.specs.Formula.{Formula}
-use Rattle.logic.specs.FormulaLaws.{size_positive}
+use Rattle.logic.proofs.FormulaLaws.{size_positive}
 use Rattle.logic.specs.Tree.{
   Rule,
   Axiom,
@@ -71,7 +71,7 @@ use Rattle.wire.specs.Read.{
 }
 use Rattle.wire.specs.Fits.{Bytes}
 use Rattle.wire.specs.Gives.{Gives, AllAt, ◌&◌}
-use Rattle.wire.specs.GivesLaws.{when_got, gives_map}
+use Rattle.wire.proofs.GivesLaws.{when_got, gives_map}
 use Rattle.formula.specs.Answers.{coded, reads}
 use Rattle.formula.specs.ReadingLaws.{Reached, reached}
 use Rattle.formula.specs.declared.Refusal.{Refusal}

@@ -1,4 +1,6 @@
 // Trees in bytes: reading with document 01's refusals, `depth` of proof.rs, and where the parts of a node stand.
+#![tactic(auto)]
+
 ghost use Rattle.std.specs.Prelude.{◌≡◌, ◌+◌, ◌*◌, ◌≤◌, ◌<◌, max, min, length, get_or, drop};
 ghost use Rattle.std.proofs.Math.Seq.{slice};
 ghost use Rattle.wire.specs.Read.{read_all, read_zone, read_sequent, read_premises, read_node, read_tree};
@@ -23,35 +25,35 @@ pub const FOCUS_POSITIVE: u8 = 15;
 pub const BLUR: u8 = 17;
 
 // A tree read: the place after its last node and its depth.
-#[derive(Drop)]
+#[derive(Clone, Copy)]
 pub enum Subtree {
     Whole { next: usize, depth: usize },
     Refused(Refusal),
 }
 
 // How many formulas stand between two places.
-#[derive(Drop)]
+#[derive(Clone, Copy)]
 pub enum Formulas {
     Count(usize),
     Refused(Refusal),
 }
 
 // A zone read: how many formulas, and the place after it.
-#[derive(Drop)]
+#[derive(Clone, Copy)]
 pub enum Zone {
     Holds { count: usize, next: usize },
     Refused(Refusal),
 }
 
 // A node's own bytes read: its premise count, and the place of its first premise.
-#[derive(Drop)]
+#[derive(Clone, Copy)]
 pub enum Own {
     Premises { count: usize, next: usize },
     Refused(Refusal),
 }
 
 // The answer of `depth`.
-#[derive(Drop)]
+#[derive(Clone, Copy)]
 pub enum Measured {
     Depth(usize),
     Refused(Refusal),
@@ -312,14 +314,14 @@ pub fn next_formula(s: &[u8], at: usize, end: usize) -> usize
 }
 
 // A part of the message, from one place up to another.
-#[derive(Drop)]
+#[derive(Clone, Copy)]
 pub struct Span {
     pub start: usize,
     pub end: usize,
 }
 
 // Where the parts of a node stand: its argument, the formulas of its zones, its first premise.
-#[derive(Drop)]
+#[derive(Clone, Copy)]
 pub struct Node {
     pub rule: u8,
     pub argument: usize,

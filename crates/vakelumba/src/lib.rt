@@ -1,5 +1,7 @@
 // The library for C and Rust: each public call under a plain name, over numbers, references and slices alone. Any bytes, words and places may be lent. A call returns document 01's number of its
 // answer, and every place that is lent for a value is settled on every answer: 0 where there is nothing to say.
+#![tactic(auto)]
+
 mod proved; // proved.rt: the search's answer as its number, a length and the counters
 mod said; // said.rt: an answer as its number and its value
 mod shorts; // shorts.rt: what the calls of short trees answer, as its number and a length

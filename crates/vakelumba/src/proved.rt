@@ -7,14 +7,14 @@ use prover::Answer;
 
 // search.rs: `ProverStats`: the visits, the failures met again, and the greatest depth.
 #[repr(C)]
-#[derive(Drop)]
+#[derive(Clone, Copy)]
 pub struct Counters {
     pub explored: usize,
     pub hits: usize,
     pub reached: usize,
 }
 
-#[derive(Drop)]
+#[derive(Clone, Copy)]
 pub struct Report {
     pub number: u8,
     pub counters: Counters,

@@ -6,7 +6,7 @@ use formula::{Positive, Refusal, Written};
 use tree::Measured;
 
 // Document 01's number of the answer, and what else it says: a length, a depth or a bit; 0 on a refusal.
-#[derive(Drop)]
+#[derive(Clone, Copy)]
 pub struct Said {
     pub number: u8,
     pub value: usize,

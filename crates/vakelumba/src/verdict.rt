@@ -9,7 +9,7 @@ use verify::Verified;
 
 // Where a tree is wrong: the rule's number, the node's number in preorder, the steps below the root, and how many premises were expected and got. All are 0 where the answer has none.
 #[repr(C)]
-#[derive(Drop)]
+#[derive(Clone, Copy)]
 pub struct Fault {
     pub rule: u8,
     pub node: usize,
@@ -18,7 +18,7 @@ pub struct Fault {
     pub got: usize,
 }
 
-#[derive(Drop)]
+#[derive(Clone, Copy)]
 pub struct Verdict {
     pub number: u8,
     pub fault: Fault,

@@ -8,11 +8,11 @@ use Rattle.logic.specs.Verify.{shape_at, verify}
 use Rattle.logic.specs.Legal.{Legal}
 use Rattle.logic.specs.Shaped.{ParsShown}
 use Rattle.logic.specs.Strict.{strict_fault, verify_strict}
-use Rattle.logic.specs.StrictLaws.{strict_accepts_iff, strict_accepts_legal_iff, strict_rejects}
+use Rattle.logic.proofs.StrictLaws.{strict_accepts_iff, strict_accepts_legal_iff, strict_rejects}
 use Rattle.wire.specs.Write.{write_tree}
 use Rattle.wire.specs.Read.{Read, got, refused, read_tree}
 use Rattle.wire.specs.Fits.{Bytes, TreeFits}
-use Rattle.wire.specs.TreeBytes.{read_write_tree, write_read_tree}
+use Rattle.wire.proofs.TreeBytes.{read_write_tree, write_read_tree}
 use Rattle.verify.specs.Verdicts.{verdict_of, checked, answer_number}
 use Rattle.verify.specs.declared.Verified.TheVariants as verified
 

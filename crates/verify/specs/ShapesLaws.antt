@@ -12,10 +12,10 @@ use borrow.Author.Tests.{eqb-true, eqb-false, eq-eqb, ne_eqb}
 use Rattle.std.proofs.Math.Dec.{eqb}
 use Rattle.std.proofs.Math.ListN.{get_or, get_or-eq_default}
 use Rattle.logic.specs.Formula.{Formula, One, Bottom, Top, Zero, Atom, NegAtom, Tensor, Par, With, Plus, Lolli, OfCourse, WhyNot, negate, same, among, size}
-use Rattle.logic.specs.FormulaLaws.{same_iff, same_symmetric, different_same, size_positive}
+use Rattle.logic.proofs.FormulaLaws.{same_iff, same_symmetric, different_same, size_positive}
 use Rattle.wire.specs.Write.{write_formula, write_formulas}
 use Rattle.logic.specs.Parts.{tag_of, name_of, left_part, right_part, is_literal, is_binary, is_unary, signs, make, signed}
-use Rattle.logic.specs.PartsLaws.{size_name, by_tag, same_signed}
+use Rattle.logic.proofs.PartsLaws.{size_name, by_tag, same_signed}
 use Rattle.logic.specs.Sequent.{Sequent}
 use Rattle.logic.specs.Tree.{Rule, Axiom, Cut, OneIntro, BottomIntro, TensorIntro, ParIntro, TopIntro, WithIntro, PlusIntroLeft, PlusIntroRight, OfCourseIntro, WhyNotIntro, Weakening, Contraction, Dereliction, FocusPositive, FocusNegative, Blur, premise_count}
 use Rattle.logic.specs.Verify as logic

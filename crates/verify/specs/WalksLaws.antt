@@ -15,7 +15,7 @@ use Rattle.logic.specs.Strict.{or_fault, strict_fault}
 use Rattle.wire.specs.Write.{two_bytes, write_node, write_nodes, write_tree, message}
 use Rattle.wire.specs.Read.{Read, got, refused, read_tree, highest_tree}
 use Rattle.wire.specs.Fits.{Bytes, NodesFit, NodesFit*, TreeBack}
-use Rattle.wire.specs.TreeBytes.{write_read_tree}
+use Rattle.wire.proofs.TreeBytes.{write_read_tree}
 use Rattle.formula.specs.declared.Refusal.{Refusal}
 use Rattle.tree.specs.Answers.{tree_read}
 use Rattle.tree.specs.Stands.{Stands}

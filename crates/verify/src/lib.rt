@@ -1,4 +1,6 @@
 // `verify_proof` of verify.rs, on a tree in bytes, in shape mode and in strict mode. All reading ends before any checking: a tree that cannot be read is refused.
+#![tactic(auto)]
+
 ghost use Rattle.std.specs.Prelude.{◌≡◌, Bool, ◌+◌, ◌≤◌, length};
 ghost use Rattle.logic.specs.Verify.{need_premises, shape_at};
 ghost use Rattle.logic.specs.Strict.{strict_fault};
@@ -19,7 +21,7 @@ const SHAPE_FIRST: bool = true;
 const COUNT_FIRST: bool = false;
 
 // What is wrong at a node.
-#[derive(Drop)]
+#[derive(Clone, Copy)]
 pub enum Fault {
     None,
     Invalid,
@@ -28,7 +30,7 @@ pub enum Fault {
 }
 
 // The answer of `verify`. A rule is its number; nodes are numbered in preorder, the root 0; wrappers are the steps below the root.
-#[derive(Drop)]
+#[derive(Clone, Copy)]
 pub enum Verified {
     Accepted,
     Refused(Refusal),
@@ -52,7 +54,7 @@ pub enum Verified {
 }
 
 // A part of the tree passed, with the next place and the next node's number; or the verdict.
-#[derive(Drop)]
+#[derive(Clone, Copy)]
 pub enum Walked {
     Passed { next: usize, number: usize },
     Failed(Verified),

@@ -1,13 +1,5 @@
 pub mod Write
 pub mod Read
-pub mod ReadCases
 pub mod Fits
 pub mod FitsLaws
 pub mod Gives
-pub mod GivesLaws
-pub mod FormulaBytes
-pub mod ZoneBytes
-pub mod MessageBytes
-pub mod QuestionBytes
-pub mod TreeBytes
-pub mod FoundFits

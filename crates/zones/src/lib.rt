@@ -1,9 +1,11 @@
 // A sequent by value: two zones of numbers of held formulas, and what search.rs does to `linear` and `unrestricted` (`remove(i)`, `push`, `[i] = ..`, one part of a split). At most 31 formulas,
 // both zones together: a caller tests refusal 6 before it makes a longer one.
+#![tactic(auto)]
+
 ghost use Rattle.std.specs.Prelude.{◌≡◌, ◌+◌, ◌<◌, ◌≤◌, length};
 ghost use Rattle.zones.specs.Zones.{linears, unrestricteds, bit, past, Fits, Made, Empty, Shifted, without, replaced, pushed, only, split, without_unrestricted, pushed_unrestricted};
 
-#[derive(Drop)]
+#[derive(Clone, Copy)]
 pub struct Zones {
     pub linear: [u16; 31],
     pub linear_len: usize,

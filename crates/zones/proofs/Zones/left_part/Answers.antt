@@ -1,0 +1,5 @@
+use borrow.Author.Rules.{rules}
+use Rattle.zones.proofs.Zones.left_part.Goals as goal
+
+pub returns : goal.returns
+returns c = c.part.ensures

@@ -1,0 +1,6 @@
+use borrow.Author.Rules.{rules}
+use Rattle.zones.proofs.Steps.{made_pushed}
+use Rattle.zones.proofs.Zones.pushed.Goals as goal
+
+pub returns : goal.returns
+returns c = made_pushed c.requires.0 _ c.requires.1
