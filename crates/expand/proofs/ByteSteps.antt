@@ -14,7 +14,7 @@ use Rattle.logic.proofs.PartsLaws.{unit_tags, name_tags, binary_tags, unary_tags
 use Rattle.wire.specs.Write.{two_bytes, write_formula, write_formulas, write_zone}
 use Rattle.wire.proofs.FormulaBytes.{length_write}
 use Rattle.wire.proofs.ZoneBytes.{write_formulas_append, write_formulas_one, length_write_zone}
-use Rattle.formula.specs.RewritingLaws.{sets_append}
+use Rattle.formula.proofs.RewritingLaws.{sets_append}
 use Rattle.held.specs.SignsLaws.{node_make}
 use Rattle.held.specs.Words.{at, count, view, told, named, Row, unit, name, two, one, Wf}
 use Rattle.held.specs.Answers.{Field}

@@ -54,8 +54,8 @@ number_some m f r i wf x e = noted_at wf (rw e at x)
 pub number_fits : (m : List ℕ) (f : Formula) (r : Found) (i : ℕ) → Wf m → NumberOf m f r → r ≡ found.At i → i < most
 number_fits m f r i wf x e = let h : (i < count m) × (told m i ≡ f) = rw e at x in omega (arith, h.0, wf.few)
 
-pub number_none : (m : List ℕ) (f : Formula) (r : Found) → NumberOf m f r → variant found_type r ≡ 1 → Noted m f 0
-number_none m f (found.At i) x e = let q : ◌≡◌ {A = ℕ} 0 1 = e in absurd (omega arith)
+pub number_none : (m : List ℕ) (f : Formula) (r : Found) → NumberOf m f r → r ≡ found.Nothing → Noted m f 0
+number_none m f (found.At i) x e = cc
 number_none m f found.Nothing x e = noted_none x
 
 noted_as : {m : List ℕ} {f g : Formula} {r : ℕ} → f ≡ g → Noted m f r → Noted m g r

@@ -4,6 +4,4 @@ pub mod ReadingLaws
 pub mod Signs
 pub mod SignsLaws
 pub mod Rewriting
-pub mod RewritingLaws
 pub mod Calls
-pub mod CallsLaws

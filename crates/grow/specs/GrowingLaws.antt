@@ -41,7 +41,7 @@ use Rattle.logic.specs.Tree.{
   premise_count,
 }
 use Rattle.wire.specs.Write.{write_zone, write_rule, write_node, write_nodes}
-use Rattle.formula.specs.RewritingLaws.{sets_append}
+use Rattle.formula.proofs.RewritingLaws.{sets_append}
 use Rattle.tree.specs.Stands.{Stands}
 use Rattle.tree.specs.Places.{rule_number}
 use Rattle.held.specs.Words.{view, told}

@@ -2,3 +2,4 @@ pub mod RowSteps
 pub mod EntrySteps
 pub mod LoopSteps
 pub mod TurnSteps
+pub mod ZerosSteps

@@ -1,5 +1,5 @@
 -- Steps of the proofs on rows: a told bool, a weighed row. Assumes nothing.
-use mathlib.Core.Path.{◌≡◌, refl, sym, ◌∙◌, ap}
+use mathlib.Core.Path.{◌≡◌, refl}
 use mathlib.Core.Bool.{Bool, true, false}
 use mathlib.Core.List.{List}
 use Prim.Native.Nat.{ℕ, ◌+◌, ◌≤◌, ◌<◌, max}
@@ -8,7 +8,7 @@ use borrow.Author.Count.{below_more}
 use borrow.Author.Tests.{eqb-true, eqb-false}
 use lib.Dec.{eqb}
 use Rattle.held.specs.Words.{at, Row, unit, name, two, one, RowAt, Rows}
-use Rattle.held.specs.Answers.{Tells, Weighed, Joined, is_of, both, tallOf, wide_of}
+use Rattle.held.specs.Answers.{Tells, Weighed, Joined, is_of, both}
 use Rattle.held.specs.declared.rows.Weight.{Weight}
 use Rattle.held.specs.declared.rows.Weight.TheVariants.{Of, Unfit}
 

@@ -35,7 +35,7 @@ use Rattle.held.specs.Signs.{node}
 use Rattle.held.specs.SignsLaws.{node_make, enter_low, enter_mid, enter_high}
 use Rattle.held.specs.EnterLaws.{add_known, add_unknown, added_longer, enter_longer}
 use Rattle.held.specs.OrderLaws.{le_or_lt, eq_or_not}
-use Rattle.held.specs.Words.{at, count, most, held, view, told, Row, unit, name, two, one, Wf, Extends}
+use Rattle.held.specs.Words.{at, count, most, view, told, Row, unit, name, two, one, Wf, Extends}
 use Rattle.held.specs.Answers.{Next, Stored, NoRoom, AddedTo, TakenBack}
 use Rattle.held.specs.Turn.{Memo, Turn, KnownAt, LeafAt, HalfAt, TwoAt, SingleAt, StepOf, Ready, Finished, Entered, Over, Turned, Refused, EnteredOr, Implication}
 use Rattle.held.specs.WordsLaws.{held_node, held_length, weights, keeps, extends_refl, extends_trans, among_true, row_low, row_weight_fits}

@@ -1,9 +1,8 @@
 -- What the functions on rows, order words and entries answer. Assumes nothing: these are definitions.
-use Rattle.std.specs.Prelude.{◌≡◌, Bool, true, false, List, [], ◌∷◌, ◌++◌, ℕ, zero, suc, ◌+◌, ◌*◌, ◌≤◌, ◌<◌, max, get_or, length, eqb}
-use Rattle.logic.specs.Formula.{Formula, One, among}
+use Rattle.std.specs.Prelude.{◌≡◌, Bool, true, false, List, [], ℕ, ◌+◌, ◌*◌, ◌≤◌, ◌<◌, max, get_or, length, eqb}
+use Rattle.logic.specs.Formula.{Formula, among}
 use Rattle.logic.specs.Held.{add}
-use Rattle.held.specs.Signs.{node}
-use Rattle.held.specs.Words.{at, order_at, code, code_at, count, most, words, orders, held, view, told, Row, Same, Ordered, Zeros, Wf, Agree, Extends}
+use Rattle.held.specs.Words.{at, order_at, code, code_at, count, most, words, orders, view, told, Row, Zeros, Wf, Agree, Extends}
 use Rattle.held.specs.declared.Found.{Found}
 use Rattle.held.specs.declared.Found.TheVariants as found
 use Rattle.held.specs.declared.Added.{Added}

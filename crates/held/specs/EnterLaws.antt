@@ -1,5 +1,5 @@
 -- Laws of entering formulas: the list of held formulas never grows shorter. Assumes nothing.
-use Rattle.std.specs.Prelude.{◌≡◌, refl, Bool, true, false, List, [], ◌∷◌, ◌++◌, ℕ, ◌+◌, ◌≤◌, ◌<◌, length}
+use Rattle.std.specs.Prelude.{◌≡◌, Bool, true, false, List, [], ◌∷◌, ◌++◌, ◌≤◌, length}
 use Rattle.std.proofs.Common.{arith, le_trans, length-append}
 use Rattle.logic.specs.Formula.{Formula, One, Bottom, Top, Zero, Atom, NegAtom, Tensor, Par, With, Plus, Lolli, OfCourse, WhyNot, among}
 use Rattle.logic.specs.Held.{add, enter, enter_all}

@@ -1,16 +1,16 @@
 -- Laws of entering a whole after its parts: where its parts are held it may stand next, and then it is entered with them or there is no room for them all. Assumes nothing.
-use Rattle.std.specs.Prelude.{◌≡◌, refl, true, false, List, [], ◌∷◌, ℕ, suc, ◌+◌, ◌≤◌, ◌<◌, max, get_or, length}
+use Rattle.std.specs.Prelude.{◌≡◌, refl, List, [], ◌∷◌, ℕ, ◌+◌, ◌≤◌, ◌<◌, max, length}
 use Rattle.std.proofs.Common.{sym, ◌∙◌, ap, arith, lt_of_lt_of_le, length-append}
-use Rattle.logic.specs.Formula.{Formula, One, height, size, among}
+use Rattle.logic.specs.Formula.{Formula, One, height, size}
 use Rattle.logic.specs.Parts.{make}
 use Rattle.logic.specs.Held.{add, enter}
 use Rattle.logic.proofs.PartsLaws.{height_binary, height_unary, size_binary, size_unary}
 use Rattle.held.specs.Signs.{node}
 use Rattle.held.specs.SignsLaws.{node_make, enter_low, enter_mid, enter_high}
-use Rattle.held.specs.EnterLaws.{add_unknown, added_longer, enter_longer}
-use Rattle.held.specs.Words.{at, count, most, view, told, Row, unit, name, two, one, Wf, Extends}
-use Rattle.held.specs.WordsLaws.{held_length, weights, keeps, extends_trans}
-use Rattle.held.specs.Answers.{Next, Stored, NoRoom, AddedTo}
+use Rattle.held.specs.EnterLaws.{add_unknown, added_longer}
+use Rattle.held.specs.Words.{at, count, most, view, told, unit, name, two, one, Wf, Extends}
+use Rattle.held.specs.WordsLaws.{held_length, weights, extends_trans}
+use Rattle.held.specs.Answers.{Next, Stored, NoRoom}
 use Rattle.held.specs.Turn.{Entered, Over}
 
 -- the formula may stand next, and is what the tag makes of its parts

@@ -1,6 +1,6 @@
 -- Laws of the words: each formula is made of those before it; equal numbers are equal formulas; heights and sizes are the real ones; what is held stays held; the words are settled by
 -- what they say. Assumes nothing.
-use Rattle.std.specs.Prelude.{◌≡◌, refl, ◌↔◌, ◌⊎◌, Bool, true, false, List, [], ◌∷◌, ◌++◌, ℕ, zero, suc, ◌+◌, ◌*◌, ◌-◌, ◌/◌, ◌%◌, ◌≤◌, ◌<◌, max, get_or, length}
+use Rattle.std.specs.Prelude.{◌≡◌, refl, ◌↔◌, ◌⊎◌, Bool, true, false, List, [], ◌∷◌, ◌++◌, ℕ, zero, suc, ◌+◌, ◌*◌, ◌-◌, ◌/◌, ◌%◌, ◌≤◌, ◌<◌, get_or, length}
 use Rattle.std.proofs.Common.{sym, ◌∙◌, ap, ⊎_elim, inl, inr, suc-le-suc, eq-or-lt_of_le, le_of_suc-le-suc, zero-lt-suc, add-one, arith, below_none, below_more, length-append, ext_get_or}
 use Rattle.std.proofs.Math.ListN.{get_or-append}
 use Rattle.std.proofs.lemmas.List.{get_or_at}
@@ -22,8 +22,8 @@ use Rattle.held.specs.SignsLaws.{
   node_mid,
   node_high,
 }
-use Rattle.held.specs.OrderLaws.{le_or_lt, Rising, rises, rising_all, rising_codes, settled}
-use Rattle.held.specs.Words.{at, order_at, code, code_at, count, most, orders, words, held, view, told, Row, unit, name, two, one, RowAt, Rows, Placed, Ordered, Zeros, Wf, Same, Agree, Extends}
+use Rattle.held.specs.OrderLaws.{le_or_lt, Rising, rises, rising_codes, settled}
+use Rattle.held.specs.Words.{at, order_at, code, code_at, count, most, orders, words, held, view, told, Row, unit, name, two, one, RowAt, Rows, Ordered, Wf, Same, Agree, Extends}
 
 pub node_ext : {m : List ℕ} {n t a b h s : ℕ} (fs gs : List Formula) → Row m n t a b h s → ((k : ℕ) → k < n → get_or fs k One ≡ get_or gs k One) → node t a b fs ≡ node t a b gs
 node_ext {m} {n} {t} {a} {b} fs gs (unit l x y e f) g = node_low a b b fs gs t (omega arith)

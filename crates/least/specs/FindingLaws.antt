@@ -58,8 +58,8 @@ use Rattle.short.specs.MakingLaws.{made_refused, few_each_made}
 use Rattle.short.specs.Few.{FewEach, few_none, few_more}
 use Rattle.short.specs.Shortening.{same_sequent, same_sequents, fits}
 use Rattle.short.specs.Least as short
-use Rattle.short.specs.LeastLaws.{fits_takes, fits_premises, fits_place, least_is, least_none}
-use Rattle.short.specs.ExpandLaws.{concluded_count}
+use Rattle.short.proofs.LeastLaws.{fits_takes, fits_premises, fits_place, least_is, least_none}
+use Rattle.short.proofs.ExpandLaws.{concluded_count}
 use Rattle.step.specs.Taking.{sequent, Asked, Crowded, Taken}
 use Rattle.step.specs.TakingLaws.{
   asked_taken,

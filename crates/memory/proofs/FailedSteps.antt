@@ -1,9 +1,8 @@
 -- Steps of looking a sequent up among the failures and of recording it. Assumes nothing.
-use mathlib.Core.Path.{◌≡◌, ap, ◌∙◌}
-use mathlib.Core.Logic.{◌⊎◌, inl, inr}
+use mathlib.Core.Path.{◌≡◌, refl, ap, ◌∙◌}
 use mathlib.Core.Bool.{Bool}
 use mathlib.Core.List.{List, ◌++◌}
-use Prim.Native.Nat.{ℕ, ◌+◌}
+use Prim.Native.Nat.{ℕ}
 use native.Mathlib.Omega.{arith}
 use lib.ListN.{take-append-drop}
 use Rattle.logic.specs.Key.{Key, contains}
@@ -11,8 +10,6 @@ use Rattle.zones.specs.declared.Zones.{Zones}
 use Rattle.held.specs.Answers.{Tells}
 use Rattle.held.specs.Words as formulas
 use Rattle.held.specs.WordsLaws.{extends_refl}
-use denote.Enum.Declared.{tag_of}
-use Rattle.failures.specs.contracts.Noted.{the_type as noted_type}
 use Rattle.failures.specs.declared.items.Items.{Items}
 use Rattle.failures.specs.declared.Noted.{Noted}
 use Rattle.failures.specs.declared.Noted.TheVariants as noted
@@ -35,15 +32,11 @@ sequent_named w s = record { wf = w.formulas; fits = s.fits; within = s.within }
 pub lent_kept : (m : List ℕ) → Wf m → Kept (lent m) (tally (lent m))
 lent_kept m w = rw (back_lent 12289 m) (wf_kept w.failures)
 
--- what became of a failure, by its tag
-abbrev tag : Noted → ℕ
-tag r = tag_of noted_type r
-
-filed : {ks : List Key} {k : Key} {js : List Key} (r : Noted) → (tag r ≡ 0) ⊎ (tag r ≡ 1) → NotedAs ks k r js → Filed ks k js
+-- what became of a failure
+filed : {ks : List Key} {k : Key} {js : List Key} (r : Noted) → (r ≡ noted.Full → ⊥) → NotedAs ks k r js → Filed ks k js
 filed noted.Known h n = was_known n
 filed noted.Recorded h n = is_new n
-filed noted.Full (inl e) n = let z : ◌≡◌ {A = ℕ} 2 0 = e in absurd (omega arith)
-filed noted.Full (inr e) n = let z : ◌≡◌ {A = ℕ} 2 1 = e in absurd (omega arith)
+filed noted.Full h n = absurd (h refl)
 
 -- looked up
 module _ (m : List ℕ) (w : Wf m) {z : Zones} (stands : StandsIn m z) {s : Items} (lists : Lists s (key_items (formula_words m) z)) where
@@ -56,7 +49,7 @@ module _ (m : List ℕ) (w : Wf m) {z : Zones} (stands : StandsIn m z) {s : Item
   noted_whole r t = noted_keys w.failures (sequent_named w stands) lists r (rw (back_lent 12289 m) at t)
 
   -- recorded
-  pub recorded : (r : Noted) (g : List ℕ) → (tag r ≡ 0) ⊎ (tag r ≡ 1) → NotedTo (lent m) (listed s) r g → Recorded m (key_of m z) (put m g)
+  pub recorded : (r : Noted) (g : List ℕ) → (r ≡ noted.Full → ⊥) → NotedTo (lent m) (listed s) r g → Recorded m (key_of m z) (put m g)
   unfolding holds
   recorded r g h t =
       let p = back_changed 12289 m g (omega (arith, wf_length m w)) in
@@ -69,9 +62,9 @@ module _ (m : List ℕ) (w : Wf m) {z : Zones} (stands : StandsIn m z) {s : Item
       }
 
   -- no room
-  pub no_place : (r : Noted) (g : List ℕ) → tag r ≡ 2 → NotedTo (lent m) (listed s) r g → NoPlace m (key_of m z) (put m g)
-  no_place noted.Known g e t = let z : ◌≡◌ {A = ℕ} 0 2 = e in absurd (omega arith)
-  no_place noted.Recorded g e t = let z : ◌≡◌ {A = ℕ} 1 2 = e in absurd (omega arith)
+  pub no_place : (r : Noted) (g : List ℕ) → r ≡ noted.Full → NotedTo (lent m) (listed s) r g → NoPlace m (key_of m z) (put m g)
+  no_place noted.Known g e t = cc
+  no_place noted.Recorded g e t = cc
   no_place noted.Full g e t =
       let n = noted_whole noted.Full t in
       record {

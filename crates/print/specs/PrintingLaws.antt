@@ -13,13 +13,13 @@ use Rattle.wire.specs.Read.{Sign, unit, named, binary, unary, signs}
 use Rattle.wire.specs.Gives.{AllAt, ◌&◌}
 use Rattle.formula.specs.Signs.{At, Stands, BinaryAt, UnaryAt}
 use Rattle.formula.specs.Calls.{Writes}
-use Rattle.formula.specs.CallsLaws.{Whole, whole_stands, writes_short, writes_bytes}
+use Rattle.formula.proofs.CallsLaws.{Whole, whole_stands, writes_short, writes_bytes}
 use Rattle.formula.specs.declared.Refusal.TheVariants.{OutputShort}
 use Rattle.formula.specs.declared.Written.TheVariants.{Bytes, Refused}
 use Rattle.formula.specs.Reading.{form_of}
 use Rattle.formula.specs.declared.Form.TheVariants.{Unit, Named, Binary, Unary, Unknown}
 use Rattle.formula.specs.SignsLaws.{all_at, shaped, starts_inside, tag_below}
-use Rattle.formula.specs.RewritingLaws.{sets_append}
+use Rattle.formula.proofs.RewritingLaws.{sets_append}
 use Rattle.print.specs.Printing.{signs_of, spaced, sign_texts, sign_text, sign_row, laid, place, Emitted, went, stopped, Ready, Printed}
 use Rattle.print.specs.declared.Style.{Style}
 use Rattle.print.specs.declared.Style.TheVariants.{Unicode, Ascii}

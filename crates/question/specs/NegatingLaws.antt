@@ -16,7 +16,7 @@ use Rattle.wire.proofs.MessageBytes.{read_write_one}
 use Rattle.wire.proofs.ZoneBytes.{length_write_formulas, write_formulas_append, write_formulas_one, drop_split}
 use Rattle.formula.specs.Answers.{reads}
 use Rattle.formula.specs.Calls.{left_in, Writes}
-use Rattle.formula.specs.RewritingLaws.{sets_append}
+use Rattle.formula.proofs.RewritingLaws.{sets_append}
 use Rattle.formula.specs.declared.Written.{Written}
 use Rattle.formula.specs.declared.Read as place
 use Rattle.formula.specs.declared.Read.TheVariants as reader

@@ -10,7 +10,7 @@ use Rattle.logic.specs.Sequent.{Question, one_sided, two_sided, to_one_sided}
 use Rattle.wire.specs.Write.{two_bytes, write_formulas, write_body, write_question}
 use Rattle.wire.specs.Read.{got, read_all, read_question}
 use Rattle.wire.specs.Fits.{Bytes}
-use Rattle.formula.specs.RewritingLaws.{sets_append}
+use Rattle.formula.proofs.RewritingLaws.{sets_append}
 use Rattle.question.specs.Answers.{kind_of, zone_size, places_of, turned, turned_bytes, left_in}
 use Rattle.question.specs.Found.{Cut, Found}
 use Rattle.question.specs.FoundLaws.{laid_out, question_length, body_length, found_at}

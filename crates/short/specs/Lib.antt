@@ -4,17 +4,12 @@ pub mod Making
 pub mod Shortening
 pub mod Runs
 pub mod Taken
-pub mod StepsLaws
 pub mod Closed
 pub mod EnteredLaws
 pub mod Few
 pub mod Outcome
 pub mod MakingLaws
 pub mod Stages
-pub mod ExpandLaws
 pub mod Least
-pub mod LeastLaws
 pub mod Regular
-pub mod ShortenLaws
 pub mod LeastTree
-pub mod WalkedLaws

@@ -1,7 +1,6 @@
 -- The steps of the search's rules, each by its rule, the place of its principal formula in its zone and, for a tensor, the mask of the split (document 02, 11/12, and `Built`). A step is
 -- taken at a sequent whose first decomposable formula is no implication: that one is spelled out before, unwritten. Assumes nothing: these are definitions.
 use Rattle.std.specs.Prelude.{Bool, true, false, not, ◌&&◌, List, [], ◌∷◌, ◌++◌, ℕ, ◌^◌, eqb, ltb, get_or, length, take}
-use Rattle.std.proofs.Math.Option.{none}
 use Rattle.logic.specs.Formula.{Formula, One, same, negate}
 use Rattle.logic.specs.Parts.{tag_of, left_part, right_part, is_literal}
 use Rattle.logic.specs.Sequent.{Sequent, ◌﹔◌}

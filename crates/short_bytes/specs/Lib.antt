@@ -1,5 +1,4 @@
 pub mod Write
 pub mod Read
 pub mod Fits
-pub mod ShortBytes
 pub mod Runs

@@ -21,7 +21,7 @@ use Rattle.tree.specs.ReadingLaws.{Landed, reads_next, two_there, two_read}
 use Rattle.short.specs.Short.{Short, Shorts, short, □, ◌▸◌, follow}
 use Rattle.short_bytes.specs.Write.{has_mask}
 use Rattle.short_bytes.specs.Read.{read_four, short_rules, read_mask, read_short_premises, read_short_node, read_message_two, read_short}
-use Rattle.short_bytes.specs.ShortBytes.{read_message_two_is}
+use Rattle.short_bytes.proofs.ShortBytes.{read_message_two_is}
 use Rattle.short_read.specs.Reading.{premises_by, node_bytes, short_read, HeadThere, HeadRead}
 use Rattle.short_read.specs.EndsLaws.{short_ends}
 use Rattle.short_read.specs.RuleLaws.{RuleThere, rule_refused, rule_there}

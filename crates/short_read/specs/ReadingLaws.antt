@@ -39,7 +39,7 @@ use Rattle.short.specs.Short.{Short, Shorts, short, □, ◌▸◌, heights, man
 use Rattle.short_bytes.specs.Write.{four_bytes, has_mask, write_mask, write_short_node, write_short_nodes, message_two, write_short}
 use Rattle.short_bytes.specs.Read.{read_short}
 use Rattle.short_bytes.specs.Fits.{HasShort, MaskFits, ShortNodeFits}
-use Rattle.short_bytes.specs.ShortBytes.{write_read_short}
+use Rattle.short_bytes.proofs.ShortBytes.{write_read_short}
 use Rattle.short_read.specs.Reading.{premises_by, four, short_read}
 use Rattle.short_read.specs.Places.{Got, RootThere, NodeThere, OneThere, TwoThere}
 use Rattle.short_read.specs.declared.Subtree.{Subtree}

@@ -21,7 +21,7 @@ use Rattle.short.specs.Making.{Result, made, mismatch, refused}
 use Rattle.short.specs.MakingLaws.{with_held}
 use Rattle.short.specs.Shortening.{expand}
 use Rattle.short.specs.EnteredLaws.{stay_refl}
-use Rattle.short.specs.ExpandLaws.{expand_again}
+use Rattle.short.proofs.ExpandLaws.{expand_again}
 use Rattle.short_bytes.specs.Write.{write_short_node}
 use Rattle.short_bytes.specs.Read.{read_short}
 use Rattle.short_read.specs.Places.{RootThere}

@@ -18,7 +18,7 @@ use Rattle.short.specs.Short.{Short}
 use Rattle.short_bytes.specs.Write.{write_short}
 use Rattle.short_bytes.specs.Read.{read_short}
 use Rattle.short_bytes.specs.Fits.{ShortFits, ShortBack}
-use Rattle.short_bytes.specs.ShortBytes as short_bytes
+use Rattle.short_bytes.proofs.ShortBytes as short_bytes
 use Rattle.short_trees.specs.declared.Answer.TheVariants.{Written}
 use Rattle.short_trees.specs.Promise.{Call, Left, Expands, Shortens, expanding, shortening}
 use Rattle.short_trees.specs.Claims.{SameResult, TreeExpanded, TreeShortened, Restored, MadeOrNoRoom}

@@ -59,16 +59,16 @@ use Rattle.memory.specs.SettledLaws.{image_once}
 use Rattle.short.specs.Short.{Short, short, Shorts, □, ◌▸◌}
 use Rattle.short.specs.Making.{Result, made, mismatch, refused}
 use Rattle.short.specs.Shortening.{expand, shorten}
-use Rattle.short.specs.StepsLaws.{built_more}
+use Rattle.short.proofs.StepsLaws.{built_more}
 use Rattle.short.specs.Few.{Few, Few*}
-use Rattle.short.specs.ExpandLaws.{expand_builds, expand_few}
+use Rattle.short.proofs.ExpandLaws.{expand_builds, expand_few}
 use Rattle.short.specs.Regular.{has_short, Regular, Regular*}
-use Rattle.short.specs.ShortenLaws.{shorten_expands, built_shortens, shortened_regular, shortened_height}
-use Rattle.short.specs.WalkedLaws.{expanded_depth, shortened_least}
+use Rattle.short.proofs.ShortenLaws.{shorten_expands, built_shortens, shortened_regular, shortened_height}
+use Rattle.short.proofs.WalkedLaws.{expanded_depth, shortened_least}
 use Rattle.short_bytes.specs.Write.{has_mask}
 use Rattle.short_bytes.specs.Read.{read_short}
 use Rattle.short_bytes.specs.Fits.{HasShort, MaskFits, ShortNodesFit, ShortNodesFit*, ShortFits}
-use Rattle.short_bytes.specs.ShortBytes.{read_write_short, write_read_short}
+use Rattle.short_bytes.proofs.ShortBytes.{read_write_short, write_read_short}
 use Rattle.short_trees.specs.declared.Answer.{Answer}
 use Rattle.short_trees.specs.declared.Answer.TheVariants.{Written, Refused}
 use Rattle.short_trees.specs.Promise.{

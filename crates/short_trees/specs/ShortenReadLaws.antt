@@ -30,9 +30,9 @@ use Rattle.short.specs.Short.{Short}
 use Rattle.short.specs.Making.{Result, made, mismatch, refused, made_of, unless, spelt}
 use Rattle.short.specs.MakingLaws.{result_of, with_held, and_then_from, spelt_again}
 use Rattle.short.specs.Shortening.{same_sequent, shorten}
-use Rattle.short.specs.LeastLaws.{same_sequent_iff}
+use Rattle.short.proofs.LeastLaws.{same_sequent_iff}
 use Rattle.short.specs.EnteredLaws.{stay_refl}
-use Rattle.short.specs.ShortenLaws.{shorten_again}
+use Rattle.short.proofs.ShortenLaws.{shorten_again}
 use Rattle.short_bytes.specs.Write.{write_short_node, message_two, write_short}
 use Rattle.step.specs.Taking.{sequent, if_full, SpeltTo}
 use Rattle.step.specs.TakingLaws.{sequent_grows, sequent_same}

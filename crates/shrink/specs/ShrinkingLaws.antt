@@ -44,7 +44,7 @@ use Rattle.logic.specs.Tree.{
 use Rattle.wire.specs.Write.{write_zone, write_rule, write_node, write_nodes}
 use Rattle.wire.proofs.ZoneBytes.{length_write_zone}
 use Rattle.wire.specs.Fits.{NodesFit, NodesFit*}
-use Rattle.formula.specs.RewritingLaws.{sets_append}
+use Rattle.formula.proofs.RewritingLaws.{sets_append}
 use Rattle.tree.specs.Stands.{Stands}
 use Rattle.tree.specs.StandsLaws.{stands_left, stands_right}
 use Rattle.tree.specs.Places.{rule_number, NodeFound}
@@ -60,8 +60,8 @@ use Rattle.short.specs.Steps.{may_take, premises_of}
 use Rattle.short.specs.Making.{Result, made, mismatch, refused, answer, next_of, ◌and_then◌, unless, spelt}
 use Rattle.short.specs.MakingLaws.{result_of, with_held, made_mismatch, made_same, and_then_from, unless_true, paired_through}
 use Rattle.short.specs.Shortening.{same_sequent, least, shrunk, shorten, shorten_all}
-use Rattle.short.specs.LeastLaws.{same_sequent_iff, fits_premises, least_apart}
-use Rattle.short.specs.ShortenLaws.{shrunk_stages}
+use Rattle.short.proofs.LeastLaws.{same_sequent_iff, fits_premises, least_apart}
+use Rattle.short.proofs.ShortenLaws.{shrunk_stages}
 use Rattle.short_read.specs.Reading.{node_bytes}
 use Rattle.short_bytes.specs.Write.{four_bytes, has_mask, write_mask, write_short_node, write_short_nodes}
 use Rattle.step.specs.Taking.{sequent, if_full, SpeltTo}

@@ -48,10 +48,10 @@ use Rattle.zones.specs.Zones.{remove}
 use Rattle.expand.specs.Writing.{Sound, FirstAt}
 use Rattle.short.specs.Short.{follow}
 use Rattle.short.specs.Steps.{all_passed}
-use Rattle.short.specs.StepsLaws.{passed_all_passed}
+use Rattle.short.proofs.StepsLaws.{passed_all_passed}
 use Rattle.short.specs.Making.{mismatch}
 use Rattle.short.specs.Shortening.{fits, least}
-use Rattle.short.specs.LeastLaws.{same_zone_iff, fits_takes, least_none}
+use Rattle.short.proofs.LeastLaws.{same_zone_iff, fits_takes, least_none}
 use Rattle.shown.specs.Matching.{UnrestrictedShown}
 use Rattle.step.specs.Taking.{sequent}
 use Rattle.split.specs.declared.Least.{Least}

@@ -37,7 +37,7 @@ use Rattle.expand.specs.Writing.{Sound}
 use Rattle.short.specs.Few.{FewEach, few_none, few_more}
 use Rattle.short.specs.Steps.{all_passed, formula_at, premises_of}
 use Rattle.short.specs.MakingLaws.{few_each_made}
-use Rattle.short.specs.LeastLaws.{fits_takes, least_is, least_none}
+use Rattle.short.proofs.LeastLaws.{fits_takes, least_is, least_none}
 use Rattle.deal.specs.declared.Dealt.{Dealt}
 use Rattle.deal.specs.declared.Dealt.TheVariants as dealt
 use Rattle.deal.specs.Deal.{Answers}

@@ -18,9 +18,9 @@ use Rattle.logic.specs.Concludes.{spell_passed, spell_at}
 use Rattle.logic.specs.Tree.{TensorIntro}
 use Rattle.zones.specs.Zones.{remove}
 use Rattle.short.specs.Steps.{all_passed, formula_at, is_focus, may_take, premises_of}
-use Rattle.short.specs.StepsLaws.{all_passed_passed, Placed, is_focus_placed, is_focus_tells, passed_is_sync}
+use Rattle.short.proofs.StepsLaws.{all_passed_passed, Placed, is_focus_placed, is_focus_tells, passed_is_sync}
 use Rattle.short.specs.Shortening.{fits}
-use Rattle.short.specs.LeastLaws.{fits_takes, fits_premises, takes_fits}
+use Rattle.short.proofs.LeastLaws.{fits_takes, fits_premises, takes_fits}
 use Rattle.split.specs.Tensors.{Each, each_none, each_more, Passes, TensorFits}
 
 -- ---- what every formula of a list is, those of its parts are

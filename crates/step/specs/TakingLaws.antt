@@ -44,8 +44,8 @@ use Rattle.expand.specs.ShortLaws.{rule_of_word, place_of_word, mask_of_word}
 use Rattle.expand.specs.Writing.{Sound, premise_counts, first_of, second_of, Stepping, Stepping₂}
 use Rattle.short.specs.Short.{follow}
 use Rattle.short.specs.Steps.{is_sync, is_focus, may_take, premises_of}
-use Rattle.short.specs.StepsLaws.{is_first_placed, is_focus_tells, is_focus_placed}
-use Rattle.short.specs.LeastLaws.{may_take_place}
+use Rattle.short.proofs.StepsLaws.{is_first_placed, is_focus_tells, is_focus_placed}
+use Rattle.short.proofs.LeastLaws.{may_take_place}
 use Rattle.short.specs.Making.{made, few_each}
 use Rattle.short.specs.MakingLaws.{few_each_passed, few_each_made}
 use Rattle.short.specs.Few.{FewEach, few_none, few_more}

@@ -1,6 +1,6 @@
 -- `print::print_one` meets its contract. Assumes nothing.
 use mathlib.Core.Path.{sym, ◌∙◌}
-use Rattle.formula.specs.CallsLaws.{whole, writes_refused}
+use Rattle.formula.proofs.CallsLaws.{whole, writes_refused}
 use Rattle.print.specs.PrintingLaws.{one_ready, count_short, print_done}
 use borrow.Author.Rules.{rules}
 use Rattle.print.proofs.print_one.Statement.{statement}

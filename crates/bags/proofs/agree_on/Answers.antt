@@ -1,0 +1,18 @@
+use Rattle.bags.specs.WalksLaws.{agreeing_start, agreeing_next, agreeing_stops, agreeing_end}
+use mathlib.Core.Path.{refl}
+use Prim.Native.Nat.{◌-◌}
+use borrow.Author.Rules.{rules}
+use Rattle.bags.specs.Walks.{Agreeing}
+use Rattle.bags.proofs.agree_on.Goals as goal
+
+pub loop-p-init : goal.loop-p-init
+loop-p-init c = agreeing_start _ _ _ _ _ _
+
+pub returns-then-times_in : goal.returns-then-times_in
+returns-then-times_in c = agreeing_stops _ _ _ _ _ c.loop-p.invariant refl refl c.times_in.ensures c.times_in-in-loop-p.ensures c.loop-p-test.true c.if-times_in.true refl refl refl
+
+pub loop-p-preserved : goal.loop-p-preserved
+loop-p-preserved c = agreeing_next _ _ _ _ _ c.loop-p.invariant refl refl c.times_in.ensures c.times_in-in-loop-p.ensures c.loop-p-test.true c.if-times_in.false c.next_formula-p.ensures
+
+pub returns : goal.returns
+returns c = agreeing_end _ _ _ _ _ c.loop-p.invariant c.loop-p-test.false refl refl refl

@@ -1,0 +1,12 @@
+use Rattle.bags.specs.WalksLaws.{agreeing_start, agreeing_next, agreeing_stops, agreeing_end}
+use mathlib.Core.Path.{refl}
+use Prim.Native.Nat.{◌-◌}
+use borrow.Author.Rules.{rules}
+use Rattle.bags.specs.Walks.{Agreeing}
+use Rattle.bags.proofs.agree_on.Given as goal
+
+abbrev pub invariant-loop-p : goal.invariant-loop-p
+invariant-loop-p l = Agreeing l.s l.end l.how l.initial.p l.p l.x l.y
+
+abbrev pub decreases-loop-p : goal.decreases-loop-p
+decreases-loop-p l = l.end - l.p

@@ -1,0 +1,12 @@
+use Rattle.bags.specs.WalksLaws.{counting_start, counting_next, counting_end}
+use mathlib.Core.Path.{refl}
+use Prim.Native.Nat.{◌-◌}
+use borrow.Author.Rules.{rules}
+use Rattle.bags.specs.Walks.{Counting}
+use Rattle.bags.proofs.count.Given as goal
+
+abbrev pub invariant-loop-p : goal.invariant-loop-p
+invariant-loop-p l = Counting l.s l.end l.initial.p l.p l.n
+
+abbrev pub decreases-loop-p : goal.decreases-loop-p
+decreases-loop-p l = l.end - l.p

@@ -1,0 +1,15 @@
+use Rattle.bags.specs.Reading.{right_how}
+use borrow.Author.Rules.{rules}
+use Rattle.bags.proofs.right_how.Goals as goal
+
+pub returns-in-Plain : goal.returns-in-Plain
+unfolding right_how
+returns-in-Plain c = rw c.in-Plain.is
+
+pub returns-in-Spelled : goal.returns-in-Spelled
+unfolding right_how
+returns-in-Spelled c = rw c.in-Spelled.is
+
+pub returns-in-Negated : goal.returns-in-Negated
+unfolding right_how
+returns-in-Negated c = rw c.in-Negated.is

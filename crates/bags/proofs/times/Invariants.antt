@@ -1,0 +1,12 @@
+use Rattle.bags.specs.WalksLaws.{timing_start, timing_next, timing_end}
+use mathlib.Core.Path.{refl}
+use Prim.Native.Nat.{◌-◌}
+use borrow.Author.Rules.{rules}
+use Rattle.bags.specs.Walks.{Timing}
+use Rattle.bags.proofs.times.Given as goal
+
+abbrev pub invariant-loop-p : goal.invariant-loop-p
+invariant-loop-p l = Timing l.s l.end l.how l.initial.p l.p l.x l.n
+
+abbrev pub decreases-loop-p : goal.decreases-loop-p
+decreases-loop-p l = l.end - l.p

@@ -1,0 +1,8 @@
+use Rattle.deal.specs.DealLaws.{at_end, at_step}
+use Rattle.deal.proofs.cell.Goals as goal
+
+pub returns-then-k-others : goal.returns-then-k-others
+returns-then-k-others c = at_end c.requires c.if-k-others.true
+
+pub returns : goal.returns
+returns c = at_step c.requires c.if-k-others.false c.put-a.ensures c.put-b.ensures c.lesser.ensures

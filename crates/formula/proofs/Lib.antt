@@ -1,0 +1,2 @@
+pub mod RewritingLaws
+pub mod CallsLaws

@@ -1,0 +1,12 @@
+use mathlib.Core.Path.{refl}
+use Prim.Native.Nat.{◌-◌}
+use native.Mathlib.Omega.{arith}
+use Rattle.strict.specs.Rules.{Trying}
+use Rattle.strict.specs.RulesLaws.{trying_start, trying_next, trying_found, trying_end}
+use Rattle.strict.proofs.some_step.Given as goal
+
+abbrev pub invariant-loop-x : goal.invariant-loop-x
+invariant-loop-x l = Trying l.s l.end l.q l.p l.p2 l.initial.x l.x
+
+abbrev pub decreases-loop-x : goal.decreases-loop-x
+decreases-loop-x l = l.end - l.x

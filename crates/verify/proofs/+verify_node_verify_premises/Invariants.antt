@@ -1,0 +1,19 @@
+use native.Mathlib.Omega.{arith}
+use Rattle.strict.specs.ZonesLaws.{node_inside}
+use Rattle.verify.specs.Walks.{mode_test}
+use Rattle.verify.specs.WalksLaws.{walk_no_level, walk_no_byte, walk_failed, walk_premises, Walking, walking_start, walking_end, walking_failed, walking_next}
+use borrow.Author.Rules.{rules}
+use Prim.Native.Nat.{ℕ, ◌+◌, ◌*◌, ◌<◌}
+use Rattle.verify.proofs.+verify_node_verify_premises.Given as goal
+
+abbrev pub decreases-verify_node : goal.decreases-verify_node
+decreases-verify_node l = 2 * l.levels
+
+abbrev pub decreases-verify_premises : goal.decreases-verify_premises
+decreases-verify_premises l = 2 * l.levels + 1
+
+abbrev pub invariant-verify_premises-loop-left : goal.invariant-verify_premises-loop-left
+invariant-verify_premises-loop-left l = Walking (mode_test l.is_strict) l.s l.at l.count l.levels l.number l.wrappers l.left l.p l.m
+
+abbrev pub decreases-verify_premises-loop-left : goal.decreases-verify_premises-loop-left
+decreases-verify_premises-loop-left l = l.left

@@ -1,0 +1,10 @@
+use Prim.Native.Nat.{◌-◌}
+use native.Mathlib.Omega.{arith}
+use Rattle.verify.specs.ShapesLaws.{Seeking, seeking_start, seeking_end, seeking_found, seeking_next}
+use Rattle.verify.proofs.has_tag.Given as goal
+
+abbrev pub invariant-loop-p : goal.invariant-loop-p
+invariant-loop-p l = Seeking l.s (record { start = l.initial.p; end = l.end }) l.tag l.p
+
+abbrev pub decreases-loop-p : goal.decreases-loop-p
+decreases-loop-p l = l.end - l.p

@@ -1,0 +1,19 @@
+use Rattle.verify.specs.Verdicts.{told}
+use borrow.Author.Rules.{rules}
+use Rattle.verify.proofs.verdict.Goals as goal
+
+pub returns-in-None : goal.returns-in-None
+unfolding told
+returns-in-None c = rw c.in-None.is
+
+pub returns-in-Invalid : goal.returns-in-Invalid
+unfolding told
+returns-in-Invalid c = rw c.in-Invalid.is
+
+pub returns-in-Count : goal.returns-in-Count
+unfolding told
+returns-in-Count c = rw c.in-Count.is
+
+pub returns-in-Mismatch : goal.returns-in-Mismatch
+unfolding told
+returns-in-Mismatch c = rw c.in-Mismatch.is

@@ -1,0 +1,7 @@
+use borrow.Author.Rules.{rules}
+use Rattle.verify.specs.Walks.{mode_test}
+use Rattle.verify.proofs.verify.Goals as goal
+
+pub returns : goal.returns
+unfolding mode_test
+returns c = c.verify_in.ensures

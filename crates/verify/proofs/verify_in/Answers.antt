@@ -1,0 +1,18 @@
+use native.Mathlib.Omega.{arith}
+use borrow.Author.Rules.{rules}
+use Rattle.wire.specs.Fits.{Bytes}
+use Rattle.verify.specs.WalksLaws.{three_bytes, read_short, checked_refused, checked_accepted, checked_failed}
+use Rattle.verify.proofs.verify_in.Goals as goal
+
+pub verify_node-requires : goal.verify_node-requires
+verify_node-requires c = let bytes : Bytes _ = record { byte = λ k. (c.type_inv.s k).fits } in
+    (three_bytes c.args.s.now bytes c.read_tree.ensures c.in-Whole.is, omega arith, omega arith, read_short c.args.s.now bytes c.read_tree.ensures c.in-Whole.is)
+
+pub returns-in-Refused : goal.returns-in-Refused
+returns-in-Refused c = checked_refused _ c.args.s.now c.read_tree.ensures c.in-Refused.is
+
+pub returns-in-Passed : goal.returns-in-Passed
+returns-in-Passed c = checked_accepted _ c.args.s.now (record { byte = λ k. (c.type_inv.s k).fits }) c.read_tree.ensures c.in-Whole.is c.verify_node.ensures c.in-Passed.is
+
+pub returns-in-Failed : goal.returns-in-Failed
+returns-in-Failed c = checked_failed _ c.args.s.now (record { byte = λ k. (c.type_inv.s k).fits }) c.read_tree.ensures c.in-Whole.is c.verify_node.ensures c.in-Failed.is
