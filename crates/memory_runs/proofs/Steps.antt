@@ -1,6 +1,6 @@
 -- Steps of asking a memory that was tested before: a number below the count is of a held formula, an implication is one where its parts are, and a sequent of one held formula stands in the memory.
 -- Assumes nothing.
-use Rattle.std.proofs.Common.{◌≡◌, ap, List, ℕ, ◌+◌, ◌<◌, arith, get_or, length}
+use Rattle.std.proofs.Common.{ap, List, ℕ, ◌+◌, ◌<◌, arith, get_or, length}
 use Rattle.zones.specs.declared.Zones.{Zones}
 use Rattle.zones.specs.Zones.{Empty, Made, pushed}
 use Rattle.zones.specs.ZonesLaws.{linears_length, unrestricteds_length, within_empty, within_made}
