@@ -4,26 +4,26 @@ use mathlib.Core.Logic.{◌⊎◌, inl, inr, ⊎_elim}
 use mathlib.Core.List.{List, [], ◌∷◌, ◌++◌, map, append_assoc}
 use Prim.Native.Nat.{ℕ, zero, suc, ◌+◌, ◌-◌, ◌≤◌, ◌<◌}
 use native.Mathlib.Omega.{arith}
-use native.Mathlib.Nat.{lt_of_lt_of_le, le_trans, le_of_suc-le-suc, eq-or-lt_of_le}
+use native.Mathlib.Nat.{lt_of_lt_of_le, le_of_suc-le-suc, eq-or-lt_of_le}
 use native.Mathlib.Numerals.{add-one}
-use lib.ListN.{get_or, length, take, drop, set, length-set, drop_of_length-le, length-append, length-take, length-drop, take-append-drop, length-map, get_or-map}
-use lib.Seq.{slice, length-slice, slice_empty, take-suc, drop-cons, drop-drop, drop_at, length-take-le, take_all, get_or-take, get_or-set_same, get_or-set_other}
+use lib.ListN.{get_or, length, take, drop, set, length-set, drop_of_length-le, length-drop, take-append-drop, length-map}
+use lib.Seq.{slice, length-slice, take-suc, drop-cons, drop-drop, drop_at, length-take-le, take_all, get_or-take, get_or-set_same, get_or-set_other}
 use Rattle.logic.specs.Formula.{Formula, One, negate, height, size}
 use Rattle.logic.proofs.FormulaLaws.{size_positive}
 use Rattle.logic.specs.Held.{enter, enter_all}
 use Rattle.wire.specs.Write.{write_formula, write_formulas}
 use Rattle.wire.specs.Read.{got, read_all}
-use Rattle.wire.specs.Fits.{FormulasFit, FormulaFits, ZoneFits}
+use Rattle.wire.specs.Fits.{FormulasFit}
 use Rattle.wire.proofs.FormulaBytes.{length_write}
 use Rattle.wire.proofs.ZoneBytes.{length_write_formulas, drop_split}
 use Rattle.formula.specs.Signs.{Stands}
-use Rattle.held.specs.EnterLaws.{enter_longer, enter_all_longer}
+use Rattle.held.specs.EnterLaws.{enter_all_longer}
 use Rattle.held.specs.Words.{count, most, view, told, named, Wf, Extends}
 use Rattle.held.specs.WordsLaws.{extends_refl, extends_trans, keeps}
 use Rattle.held.specs.Turn.{Entered, Refused}
-use Rattle.held.specs.OrderLaws.{le_or_lt, eq_or_not}
+use Rattle.held.specs.OrderLaws.{le_or_lt}
 use Rattle.enter.specs.Standing.{Enterable, EnteredFrom}
-use Rattle.enter.specs.Lists.{Names, Zone, Zoned, EnteredAll, OverAll, ListedAll, Negatable, NegatedAll}
+use Rattle.enter.specs.Lists.{Names, Zone, Zoned, OverAll, ListedAll, Negatable, NegatedAll}
 use Rattle.enter.specs.declared.Entry.TheVariants as entry
 
 -- ---- lists entered one after another

@@ -1,8 +1,8 @@
 -- Steps of entering the formula that stands at a place: a leaf, a formula of one part, a formula of two. Assumes nothing.
-use mathlib.Core.Path.{◌≡◌, refl, sym, ap, ◌∙◌}
-use mathlib.Core.Logic.{◌⊎◌, inl, inr, ⊎_elim}
+use mathlib.Core.Path.{◌≡◌, sym, ap, ◌∙◌}
+use mathlib.Core.Logic.{⊎_elim}
 use mathlib.Core.List.{List}
-use Prim.Native.Nat.{ℕ, suc, ◌+◌, ◌-◌, ◌≤◌, ◌<◌, max}
+use Prim.Native.Nat.{ℕ, suc, ◌+◌, ◌≤◌, ◌<◌, max}
 use native.Mathlib.Omega.{arith}
 use native.Mathlib.Nat.{lt_of_lt_of_le}
 use lib.ListN.{length}
@@ -14,12 +14,12 @@ use Rattle.logic.proofs.PartsLaws.{height_binary, height_unary}
 use Rattle.held.specs.Signs.{node}
 use Rattle.held.specs.SignsLaws.{node_make}
 use Rattle.held.specs.EnterLaws.{enter_longer}
-use Rattle.held.specs.Words.{count, view, told, Wf, Extends}
+use Rattle.held.specs.Words.{view, told, Wf, Extends}
 use Rattle.held.specs.WordsLaws.{extends_refl, extends_trans, keeps}
 use Rattle.held.specs.Answers.{Next, Stored, NoRoom}
 use Rattle.held.specs.Turn.{Entered, Over}
 use Rattle.held.specs.WholeLaws.{Ahead, unit_ahead, name_ahead, pair_ahead, part_ahead, enter_leaf, enter_pair, enter_part, whole_entered, whole_over, part_over, second_over}
-use Rattle.enter.specs.Standing.{LeafAt, PartAt, PairAt, SignOf, StoredAs, Enterable, EnteredFrom}
+use Rattle.enter.specs.Standing.{PartAt, PairAt, SignOf, StoredAs, Enterable, EnteredFrom}
 use Rattle.enter.specs.declared.Sign.{Sign}
 use Rattle.enter.specs.declared.Sign.TheVariants as sign
 use Rattle.enter.specs.declared.Entry.{Entry}

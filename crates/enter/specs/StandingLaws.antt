@@ -1,8 +1,7 @@
 -- Laws of a formula that stands in bytes: its sign by the tag's form, and its parts entered one after another. Assumes nothing.
-use Rattle.std.specs.Prelude.{◌≡◌, refl, ◌⊎◌, List, [], ◌∷◌, ℕ, suc, ◌+◌, ◌*◌, ◌/◌, ◌%◌, ◌≤◌, ◌<◌, max, length, get_or}
-use Rattle.std.proofs.Common.{sym, ap, subst, ◌∙◌, inl, inr, ⊎_elim, arith}
-use Rattle.logic.specs.Formula.{Formula, One, height, size}
-use Rattle.logic.specs.Held.{add, enter}
+use Rattle.std.specs.Prelude.{◌≡◌, refl, List, ℕ, ◌+◌, ◌*◌, ◌≤◌, ◌<◌, length, get_or}
+use Rattle.std.proofs.Common.{sym, ap, ◌∙◌, inl, inr, arith}
+use Rattle.logic.specs.Formula.{Formula}
 use Rattle.wire.specs.Read.{Sign, unit, named, binary, unary, signs}
 use Rattle.wire.specs.Gives.{AllAt, ◌&◌}
 use Rattle.formula.specs.Reading.{form_of}
@@ -13,7 +12,7 @@ use Rattle.logic.specs.Parts as parts
 use Rattle.held.specs.Answers.{Stored, NoRoom, AddedTo}
 use Rattle.held.specs.declared.Added.{Added}
 use Rattle.held.specs.declared.Added.TheVariants as added
-use Rattle.enter.specs.Standing.{LeafAt, PartAt, PairAt, SignOf}
+use Rattle.enter.specs.Standing.{SignOf}
 use Rattle.enter.specs.declared.Sign.TheVariants as sign
 
 -- document 01's table of tags is the one that the held formulas are made by

@@ -1,3 +1,4 @@
 pub mod WholeSteps
 pub mod ShapeSteps
 pub mod FailedSteps
+pub mod RulesLaws

@@ -20,7 +20,7 @@ use Rattle.formula.specs.declared.Refusal.{Refusal}
 use Rattle.formula.specs.declared.Refusal.TheVariants.{HeldFull, WrongSetting, WrongMemory}
 use Rattle.zones.specs.declared.Zones.{Zones}
 use Rattle.question.specs.Answers.{turned}
-use Rattle.question.specs.OneSidedLaws.{turned_fits}
+use Rattle.question.proofs.OneSidedLaws.{turned_fits}
 use Rattle.failures.specs.AlikeLaws.{alike_self, alike_of}
 use Rattle.memory.specs.Meaning as memory
 use Rattle.memory.specs.Meaning.{Wf, holds, held_count, failed}

@@ -13,7 +13,7 @@ use Rattle.wire.specs.Fits.{NodesFew, NodesFew*}
 use Rattle.formula.specs.declared.Refusal as refusal
 use Rattle.formula.specs.declared.Refusal.TheVariants.{OutputShort}
 use Rattle.zones.specs.declared.Zones.{Zones}
-use Rattle.question.specs.TurningLaws.{front_stored}
+use Rattle.question.proofs.TurningLaws.{front_stored}
 use Rattle.expand.specs.Short.{expand}
 use Rattle.expand.specs.InMemory.{InMemory, InMemory*}
 use Rattle.expand.specs.Trees.{most_levels, OfTree, Fitting, Unfit, Answered}

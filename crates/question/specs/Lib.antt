@@ -7,7 +7,4 @@ pub mod ZonesLaws
 pub mod Found
 pub mod FoundLaws
 pub mod Negating
-pub mod NegatingLaws
 pub mod Turning
-pub mod TurningLaws
-pub mod OneSidedLaws

@@ -10,8 +10,6 @@ use lib.ListN.{length, get_or, take, drop, length-map, length-append}
 use lib.Seq.{take-suc, take_all, get_or-take}
 use borrow.Author.Tests.{ne_eqb, eqb-false}
 use native.Mathlib.Nat.{pow-le-pow_right}
-use types.Run.{OneOf, miss}
-use denote.Enum.Declared.{tag_of}
 use Rattle.logic.specs.Formula as formula
 use Rattle.logic.specs.Formula.{Formula, NegAtom, Atom, among}
 use Rattle.logic.proofs.FormulaLaws.{different_same}
@@ -30,14 +28,11 @@ use Rattle.memory.specs.declared.shape.Spelling.{Spelling}
 use Rattle.memory.specs.declared.shape.Spelling.TheVariants.{At, Full}
 use Rattle.memory.specs.Meaning.{told, held_count, Wf}
 use Rattle.memory.specs.Shapes.{OfTwo, OfOne, ShapeOf, Implication, Spelled, NoRoom, SpelledOr}
-use Rattle.memory.specs.contracts.shape.Shape.{the_type as shape_type}
 use Rattle.search.specs.declared.counters.Counters.{Counters}
 use Rattle.search.specs.declared.plan.Plan.{Plan}
 use Rattle.search.specs.declared.plan.Plan.TheVariants as plan
-use Rattle.search.specs.contracts.plan.Plan.{the_type as plan_type}
 use Rattle.search.specs.declared.plan.Exponential.{Exponential}
 use Rattle.search.specs.declared.plan.Exponential.TheVariants.{Dereliction, Contraction, Weakening}
-use Rattle.search.specs.contracts.plan.Exponential.{the_type as exponential_type}
 use Rattle.search.specs.Contract.{reached_at}
 use Rattle.search.specs.Plans.{sequent, linear_formula, First, NoneFirst, Planned, PlannedAt, Two, AxiomAt, AlonePart, Unfocused, number_of, long, Premise}
 
@@ -65,9 +60,6 @@ pub unrestricted_here : (told : ℕ → Formula) {z : Zones} → Fits z → (i :
 unrestricted_here told {z} f i h = map_here told (unrestricteds z) i formula.One (omega (arith, unrestricteds_length f)) ∙ ap told (get_or-take z.unrestricted_len z.unrestricted i 0 h)
 
 -- the first decomposable formula
-abbrev pub plan_tag : Plan → ℕ
-plan_tag p = tag_of plan_type p
-
 module _ (m : List ℕ) {z : Zones} (f : Fits z) (i : ℕ) (h : i < z.linear_len) (passed : Passed (take i (sequent m z).linear)) where
   pub passed_next : decomposable (told m (get_or z.linear i 0)) ≡ false → Passed (take (i + 1) (sequent m z).linear)
   passed_next e =
@@ -77,7 +69,7 @@ module _ (m : List ℕ) {z : Zones} (f : Fits z) (i : ℕ) (h : i < z.linear_len
   first_is : (g : Formula) → told m (get_or z.linear i 0) ≡ g → First m z i g
   first_is g e = record { place = h; passed = passed; here = linear_here m f i h ∙ e }
 
-  pub planned_here : (p : Plan) → PlannedAt m (get_or z.linear i 0) i p → OneOf (0 ∷ 1 ∷ 2 ∷ 3 ∷ 4 ∷ 5 ∷ 6 ∷ []) (plan_tag p) → Planned m z p
+  pub planned_here : (p : Plan) → PlannedAt m (get_or z.linear i 0) i p → (p ≡ plan.Rest → ⊥) → Planned m z p
   planned_here plan.Empty k o = absurd k
   planned_here (plan.Par j a b) k o = rw k.0 record { first = first_is _ k.1.here; left = k.1.left; right = k.1.right }
   planned_here (plan.Bottom j) k o = rw k.0 (first_is _ k.1)
@@ -85,49 +77,33 @@ module _ (m : List ℕ) {z : Zones} (f : Fits z) (i : ℕ) (h : i < z.linear_len
   planned_here (plan.With j a b) k o = rw k.0 record { first = first_is _ k.1.here; left = k.1.left; right = k.1.right }
   planned_here (plan.WhyNot j a) k o = rw k.0 record { first = first_is _ k.1.here; part = k.1.part }
   planned_here (plan.Lolli j y) k o = rw (k.0, k.1.0) record { first = first_is _ refl; implication = k.1.1 }
-  planned_here plan.Rest k o = absurd (miss (0 ∷ 1 ∷ 2 ∷ 3 ∷ 4 ∷ 5 ∷ 6 ∷ []) 7 tt o)
+  planned_here plan.Rest k o = absurd (o refl)
 
 pub none_first : (m : List ℕ) {z : Zones} → Fits z → (n : ℕ) → z.linear_len ≤ n → (z.linear_len ≡ 0 → ⊥) → Passed (take n (sequent m z).linear) → NoneFirst m z
 none_first m {z} f n h ne passed = record { some = omega arith; passed = rw (take_all n (sequent m z).linear (omega (arith, linear_length m f))) at passed }
 
--- the signs that are not decomposable
-abbrev pub shape_tag : Shape → ℕ
-shape_tag s = tag_of shape_type s
-
-abbrev kept_signs : List ℕ
-kept_signs = 0 ∷ 3 ∷ 4 ∷ 5 ∷ 6 ∷ 9 ∷ 11 ∷ []
-
-pub undecomposable : (m : List ℕ) (x : ℕ) (s : Shape) → ShapeOf m x s → OneOf kept_signs (shape_tag s) → decomposable (told m x) ≡ false
+-- the shapes that are not decomposable
+pub undecomposable : (m : List ℕ) (x : ℕ) (s : Shape) → ShapeOf m x s
+    → (s ≡ shape.Bottom → ⊥) → (s ≡ shape.Top → ⊥) → ((a b : ℕ) → s ≡ shape.Par a b → ⊥) → ((a b : ℕ) → s ≡ shape.With a b → ⊥)
+    → ((a b : ℕ) → s ≡ shape.Lolli a b → ⊥) → ((a : ℕ) → s ≡ shape.WhyNot a → ⊥) → decomposable (told m x) ≡ false
 unfolding decomposable
-undecomposable m x shape.One h o = rw h
-undecomposable m x shape.Bottom h o = absurd (miss kept_signs 1 tt o)
-undecomposable m x shape.Top h o = absurd (miss kept_signs 2 tt o)
-undecomposable m x shape.Zero h o = rw h
-undecomposable m x (shape.Atom a) h o = rw h
-undecomposable m x (shape.NegAtom a) h o = rw h
-undecomposable m x (shape.Tensor a b) h o = rw h.here
-undecomposable m x (shape.Par a b) h o = absurd (miss kept_signs 7 tt o)
-undecomposable m x (shape.With a b) h o = absurd (miss kept_signs 8 tt o)
-undecomposable m x (shape.Plus a b) h o = rw h.here
-undecomposable m x (shape.Lolli a b) h o = absurd (miss kept_signs 10 tt o)
-undecomposable m x (shape.OfCourse a) h o = rw h.here
-undecomposable m x (shape.WhyNot a) h o = absurd (miss kept_signs 12 tt o)
+undecomposable m x shape.One h b t p w l y = rw h
+undecomposable m x shape.Bottom h b t p w l y = absurd (b refl)
+undecomposable m x shape.Top h b t p w l y = absurd (t refl)
+undecomposable m x shape.Zero h b t p w l y = rw h
+undecomposable m x (shape.Atom a) h b t p w l y = rw h
+undecomposable m x (shape.NegAtom a) h b t p w l y = rw h
+undecomposable m x (shape.Tensor a a') h b t p w l y = rw h.here
+undecomposable m x (shape.Par a a') h b t p w l y = absurd (p a a' refl)
+undecomposable m x (shape.With a a') h b t p w l y = absurd (w a a' refl)
+undecomposable m x (shape.Plus a a') h b t p w l y = rw h.here
+undecomposable m x (shape.Lolli a a') h b t p w l y = absurd (l a a' refl)
+undecomposable m x (shape.OfCourse a) h b t p w l y = rw h.here
+undecomposable m x (shape.WhyNot a) h b t p w l y = absurd (y a refl)
 
 -- an implication
-pub implication_here : (m : List ℕ) (x : ℕ) (s : Shape) → Wf m → x < held_count m → ShapeOf m x s → shape_tag s ≡ 10 → Implication m x
-implication_here m x shape.One w l h o = absurd (omega arith)
-implication_here m x shape.Bottom w l h o = absurd (omega arith)
-implication_here m x shape.Top w l h o = absurd (omega arith)
-implication_here m x shape.Zero w l h o = absurd (omega arith)
-implication_here m x (shape.Atom a) w l h o = absurd (omega arith)
-implication_here m x (shape.NegAtom a) w l h o = absurd (omega arith)
-implication_here m x (shape.Tensor a b) w l h o = absurd (omega arith)
-implication_here m x (shape.Par a b) w l h o = absurd (omega arith)
-implication_here m x (shape.With a b) w l h o = absurd (omega arith)
-implication_here m x (shape.Plus a b) w l h o = absurd (omega arith)
-implication_here m x (shape.Lolli a b) w l h o = record { wf = w; low = l; left = told m a; right = told m b; here = h.here }
-implication_here m x (shape.OfCourse a) w l h o = absurd (omega arith)
-implication_here m x (shape.WhyNot a) w l h o = absurd (omega arith)
+pub implication_here : (m : List ℕ) (x : ℕ) (a b : ℕ) → Wf m → x < held_count m → ShapeOf m x (shape.Lolli a b) → Implication m x
+implication_here m x a b w l h = record { wf = w; low = l; left = told m a; right = told m b; here = h.here }
 
 -- what focusing gives: at an atom, beside which its negation must stand alone
 module _ (m : List ℕ) {z : Zones} (f : Fits z) (i : ℕ) (h : i < z.linear_len) where
@@ -185,36 +161,35 @@ module _ (m : List ℕ) {z : Zones} (f : Fits z) (i : ℕ) (h : i < z.linear_len
   alone_here a k e = record { only = record { here = linear_here m f i h ∙ k.here; alone = e }; part = k.part }
 
   -- at any other formula that is not focused on
-  abbrev unfocused_signs : List ℕ
-  unfocused_signs = 1 ∷ 2 ∷ 3 ∷ 5 ∷ 7 ∷ 8 ∷ 10 ∷ 12 ∷ []
-
   other : (g : Formula) → linear_formula m z i ≡ g → ((deeper : Sequent → Search) → prove_focused deeper (sequent m z) (take i Γ) g (drop (suc i) Γ) ≡ logic.answer logic.nothing) → Unfocused m z i
   other g e k = record { none = λ deeper. ap (λ (g : Formula). prove_focused deeper (sequent m z) (take i Γ) g (drop (suc i) Γ)) e ∙ k deeper }
 
-  pub not_focused : (s : Shape) → ShapeOf m (get_or z.linear i 0) s → OneOf unfocused_signs (shape_tag s) → Unfocused m z i
+  pub not_focused : (s : Shape) → ShapeOf m (get_or z.linear i 0) s
+      → ((a : ℕ) → s ≡ shape.Atom a → ⊥) → (s ≡ shape.One → ⊥) → ((a b : ℕ) → s ≡ shape.Tensor a b → ⊥) → ((a b : ℕ) → s ≡ shape.Plus a b → ⊥)
+      → ((a : ℕ) → s ≡ shape.OfCourse a → ⊥) → Unfocused m z i
   unfolding prove_focused
-  not_focused shape.One k o = absurd (miss unfocused_signs 0 tt o)
-  not_focused shape.Bottom k o = other _ (linear_here m f i h ∙ k) λ d. refl
-  not_focused shape.Top k o = other _ (linear_here m f i h ∙ k) λ d. refl
-  not_focused shape.Zero k o = other _ (linear_here m f i h ∙ k) λ d. refl
-  not_focused (shape.Atom a) k o = absurd (miss unfocused_signs 4 tt o)
-  not_focused (shape.NegAtom a) k o = other _ (linear_here m f i h ∙ k) λ d. refl
-  not_focused (shape.Tensor a b) k o = absurd (miss unfocused_signs 6 tt o)
-  not_focused (shape.Par a b) k o = other _ (linear_here m f i h ∙ k.here) λ d. refl
-  not_focused (shape.With a b) k o = other _ (linear_here m f i h ∙ k.here) λ d. refl
-  not_focused (shape.Plus a b) k o = absurd (miss unfocused_signs 9 tt o)
-  not_focused (shape.Lolli a b) k o = other _ (linear_here m f i h ∙ k.here) λ d. refl
-  not_focused (shape.OfCourse a) k o = absurd (miss unfocused_signs 11 tt o)
-  not_focused (shape.WhyNot a) k o = other _ (linear_here m f i h ∙ k.here) λ d. refl
+  not_focused shape.One k n o t p c = absurd (o refl)
+  not_focused shape.Bottom k n o t p c = other _ (linear_here m f i h ∙ k) λ d. refl
+  not_focused shape.Top k n o t p c = other _ (linear_here m f i h ∙ k) λ d. refl
+  not_focused shape.Zero k n o t p c = other _ (linear_here m f i h ∙ k) λ d. refl
+  not_focused (shape.Atom a) k n o t p c = absurd (n a refl)
+  not_focused (shape.NegAtom a) k n o t p c = other _ (linear_here m f i h ∙ k) λ d. refl
+  not_focused (shape.Tensor a b) k n o t p c = absurd (t a b refl)
+  not_focused (shape.Par a b) k n o t p c = other _ (linear_here m f i h ∙ k.here) λ d. refl
+  not_focused (shape.With a b) k n o t p c = other _ (linear_here m f i h ∙ k.here) λ d. refl
+  not_focused (shape.Plus a b) k n o t p c = absurd (p a b refl)
+  not_focused (shape.Lolli a b) k n o t p c = other _ (linear_here m f i h ∙ k.here) λ d. refl
+  not_focused (shape.OfCourse a) k n o t p c = absurd (c a refl)
+  not_focused (shape.WhyNot a) k n o t p c = other _ (linear_here m f i h ∙ k.here) λ d. refl
 
 -- an atom's negation is told from any other formula
-pub not_neg_atom : (m : List ℕ) (x name : ℕ) (s : Shape) → ShapeOf m x s → OneOf (0 ∷ 1 ∷ 2 ∷ 3 ∷ 4 ∷ 6 ∷ 7 ∷ 8 ∷ 9 ∷ 10 ∷ 11 ∷ 12 ∷ []) (shape_tag s) → told m x ≡ NegAtom name → ⊥
+pub not_neg_atom : (m : List ℕ) (x name : ℕ) (s : Shape) → ShapeOf m x s → ((a : ℕ) → s ≡ shape.NegAtom a → ⊥) → told m x ≡ NegAtom name → ⊥
 not_neg_atom m x name shape.One h o e = let z : ◌≡◌ {A = ℕ} 0 1 = cc in omega arith
 not_neg_atom m x name shape.Bottom h o e = let z : ◌≡◌ {A = ℕ} 0 1 = cc in omega arith
 not_neg_atom m x name shape.Top h o e = let z : ◌≡◌ {A = ℕ} 0 1 = cc in omega arith
 not_neg_atom m x name shape.Zero h o e = let z : ◌≡◌ {A = ℕ} 0 1 = cc in omega arith
 not_neg_atom m x name (shape.Atom a) h o e = let z : ◌≡◌ {A = ℕ} 0 1 = cc in omega arith
-not_neg_atom m x name (shape.NegAtom a) h o e = absurd (miss (0 ∷ 1 ∷ 2 ∷ 3 ∷ 4 ∷ 6 ∷ 7 ∷ 8 ∷ 9 ∷ 10 ∷ 11 ∷ 12 ∷ []) 5 tt o)
+not_neg_atom m x name (shape.NegAtom a) h o e = absurd (o a refl)
 not_neg_atom m x name (shape.Tensor a b) h o e = let k = h.here in let z : ◌≡◌ {A = ℕ} 0 1 = cc in omega arith
 not_neg_atom m x name (shape.Par a b) h o e = let k = h.here in let z : ◌≡◌ {A = ℕ} 0 1 = cc in omega arith
 not_neg_atom m x name (shape.With a b) h o e = let k = h.here in let z : ◌≡◌ {A = ℕ} 0 1 = cc in omega arith
@@ -227,12 +202,9 @@ pub other_name : (m : List ℕ) (x a name : ℕ) → told m x ≡ NegAtom a → 
 other_name m x a name h d e = d (let k : NegAtom a ≡ NegAtom name = sym h ∙ e in cc)
 
 -- the premises of the rules on the unrestricted zone
-abbrev pub exponential_tag : Exponential → ℕ
-exponential_tag e = tag_of exponential_type e
-
-pub long_other : (e : Exponential) (z : Zones) → OneOf (0 ∷ 2 ∷ []) (exponential_tag e) → false ≡ long e z
+pub long_other : (e : Exponential) (z : Zones) → (e ≡ Contraction → ⊥) → false ≡ long e z
 long_other Dereliction z o = refl
-long_other Contraction z o = absurd (miss (0 ∷ 2 ∷ []) 1 tt o)
+long_other Contraction z o = absurd (o refl)
 long_other Weakening z o = refl
 
 -- one formula more

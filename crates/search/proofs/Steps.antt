@@ -1,6 +1,6 @@
 -- The calculus of the ring's contract: what a nothing keeps, how a search goes on from it, what a node adds, how two premises join. No code is in it. Assumes nothing.
 use mathlib.Core.Path.{◌≡◌, refl, sym, ap, ◌∙◌, subst}
-use mathlib.Core.Logic.{⊎_elim}
+use mathlib.Core.Logic.{⊎_elim, inl, inr}
 use mathlib.Core.List.{List, [], ◌∷◌, ◌++◌}
 use mathlib.Core.Option.{some}
 use Prim.Native.Nat.{ℕ, suc, ◌+◌, ◌≤◌, ◌<◌}
@@ -33,6 +33,17 @@ use Rattle.search.specs.Contract.{Stands, Says, Agrees, counters_of, end_of}
 
 abbrev pub tag : Outcome → ℕ
 tag r = tag_of the_type r
+
+-- the answers that are no nothing, and those that are no tree
+pub not_nothing : (r : Outcome) → ((c : Counters) → r ≡ Nothing c → ⊥) → OneOf (0 ∷ 2 ∷ []) (tag r)
+not_nothing (Found n c) o = inl refl
+not_nothing (Nothing c) o = absurd (o c refl)
+not_nothing (Refused k c) o = inr refl
+
+pub not_found : (r : Outcome) → ((n : ℕ) (c : Counters) → r ≡ Found n c → ⊥) → OneOf (1 ∷ 2 ∷ []) (tag r)
+not_found (Found n c) o = absurd (o n c refl)
+not_found (Nothing c) o = inl refl
+not_found (Refused k c) o = inr refl
 
 pub grew_refl : {m : List ℕ} → Grew m m
 grew_refl = record { more = omega arith; same = λ x h. refl }

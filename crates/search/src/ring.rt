@@ -48,7 +48,7 @@ impl Prover {
     }
 
     // search.rs: `prove_with_depth`
-    #[cycle(both_copies_exponentials_masks_plus_positives_prove_async_prove_focused_prove_sync_spelled_taken_under_unrestricted_visit)]
+    #[cycle(ring)]
     pub fn visit(
         self,
         z: Zones,
@@ -85,7 +85,7 @@ impl Prover {
     }
 
     // search.rs: `prove_async`
-    #[cycle(both_copies_exponentials_masks_plus_positives_prove_async_prove_focused_prove_sync_spelled_taken_under_unrestricted_visit)]
+    #[cycle(ring)]
     fn prove_async(
         self,
         z: Zones,
@@ -138,7 +138,7 @@ impl Prover {
     }
 
     // An implication is spelled out in its place, and visited at the same depth, with no node.
-    #[cycle(both_copies_exponentials_masks_plus_positives_prove_async_prove_focused_prove_sync_spelled_taken_under_unrestricted_visit)]
+    #[cycle(ring)]
     fn spelled(
         self,
         z: Zones,
@@ -162,7 +162,7 @@ impl Prover {
     }
 
     // search.rs: `prove_sync`. The pass over negated atoms finds nothing that the positives' pass did not.
-    #[cycle(both_copies_exponentials_masks_plus_positives_prove_async_prove_focused_prove_sync_spelled_taken_under_unrestricted_visit)]
+    #[cycle(ring)]
     fn prove_sync(
         self,
         z: Zones,
@@ -184,7 +184,7 @@ impl Prover {
     }
 
     // `prove_sync`'s loop over the positive formulas.
-    #[cycle(both_copies_exponentials_masks_plus_positives_prove_async_prove_focused_prove_sync_spelled_taken_under_unrestricted_visit)]
+    #[cycle(ring)]
     fn positives(
         self,
         z: Zones,
@@ -215,7 +215,7 @@ impl Prover {
     }
 
     // search.rs: `prove_focused`
-    #[cycle(both_copies_exponentials_masks_plus_positives_prove_async_prove_focused_prove_sync_spelled_taken_under_unrestricted_visit)]
+    #[cycle(ring)]
     fn prove_focused(
         self,
         z: Zones,
@@ -244,7 +244,7 @@ impl Prover {
     }
 
     // `prove_focused` at a Tensor: its loop over `all_splits`, one mask at a time.
-    #[cycle(both_copies_exponentials_masks_plus_positives_prove_async_prove_focused_prove_sync_spelled_taken_under_unrestricted_visit)]
+    #[cycle(ring)]
     fn masks(
         self,
         z: Zones,
@@ -288,7 +288,7 @@ impl Prover {
     }
 
     // `prove_focused` at a Plus: left, then right.
-    #[cycle(both_copies_exponentials_masks_plus_positives_prove_async_prove_focused_prove_sync_spelled_taken_under_unrestricted_visit)]
+    #[cycle(ring)]
     fn plus(
         self,
         z: Zones,
@@ -331,7 +331,7 @@ impl Prover {
     }
 
     // `prove_sync` at the unrestricted zone: Dereliction over the whole zone, then the other two.
-    #[cycle(both_copies_exponentials_masks_plus_positives_prove_async_prove_focused_prove_sync_spelled_taken_under_unrestricted_visit)]
+    #[cycle(ring)]
     fn exponentials(
         self,
         z: Zones,
@@ -353,7 +353,7 @@ impl Prover {
     }
 
     // Contraction over the whole zone, then Weakening.
-    #[cycle(both_copies_exponentials_masks_plus_positives_prove_async_prove_focused_prove_sync_spelled_taken_under_unrestricted_visit)]
+    #[cycle(ring)]
     fn copies(
         self,
         z: Zones,
@@ -375,7 +375,7 @@ impl Prover {
     }
 
     // search.rs: `try_dereliction`, `try_contraction`, `try_weakening`
-    #[cycle(both_copies_exponentials_masks_plus_positives_prove_async_prove_focused_prove_sync_spelled_taken_under_unrestricted_visit)]
+    #[cycle(ring)]
     fn unrestricted(
         self,
         rule: Exponential,
@@ -407,7 +407,7 @@ impl Prover {
     }
 
     // One of the three at place i of the unrestricted zone.
-    #[cycle(both_copies_exponentials_masks_plus_positives_prove_async_prove_focused_prove_sync_spelled_taken_under_unrestricted_visit)]
+    #[cycle(ring)]
     fn taken(
         self,
         rule: Exponential,
@@ -439,7 +439,7 @@ impl Prover {
     }
 
     // A rule of one premise.
-    #[cycle(both_copies_exponentials_masks_plus_positives_prove_async_prove_focused_prove_sync_spelled_taken_under_unrestricted_visit)]
+    #[cycle(ring)]
     fn under(
         self,
         y: Zones,
@@ -463,7 +463,7 @@ impl Prover {
     }
 
     // A rule of two premises, left first.
-    #[cycle(both_copies_exponentials_masks_plus_positives_prove_async_prove_focused_prove_sync_spelled_taken_under_unrestricted_visit)]
+    #[cycle(ring)]
     fn both(
         self,
         y: Zones,

@@ -13,7 +13,7 @@ use Rattle.logic.specs.Answer as answer
 use Rattle.wire.specs.Write.{two_bytes}
 use Rattle.formula.specs.Answers.{coded}
 use Rattle.formula.specs.declared.Refusal.TheVariants.{OutputShort}
-use Rattle.question.specs.TurningLaws.{front_stored}
+use Rattle.question.proofs.TurningLaws.{front_stored}
 use Rattle.expand.specs.Writing.{Wrote}
 use Rattle.short.specs.Making.{Result, made, mismatch, refused}
 use Rattle.short_trees.specs.Promise.{Form, writable, answered, output_after}

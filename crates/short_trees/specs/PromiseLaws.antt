@@ -50,7 +50,7 @@ use Rattle.wire.proofs.QuestionBytes.{write_read_question}
 use Rattle.wire.proofs.TreeBytes.{read_write_tree, write_read_tree}
 use Rattle.wire.proofs.FoundFits.{found_fits}
 use Rattle.question.specs.Answers.{turned}
-use Rattle.question.specs.OneSidedLaws.{turned_fits}
+use Rattle.question.proofs.OneSidedLaws.{turned_fits}
 use Rattle.failures.specs.AlikeLaws.{alike_of}
 use Rattle.formula.specs.Answers.{coded}
 use Rattle.formula.specs.declared.Refusal.TheVariants.{OutputShort}

@@ -9,7 +9,7 @@ pub slice_bounds-reset-end-2 : goal.slice_bounds-reset-end-2
 slice_bounds-reset-end-2 c = front_length c.args.mem.now (omega (arith, c.if-mem-ne-WORDS.false))
 
 pub shape_of-mem : goal.shape_of-mem
-shape_of-mem c = reset_long c.args.mem.now c.reset.new.mem c.reset-2.new.fail c.if-mem-ne-WORDS.false (reset_whole c.args.mem.now c.reset.new.mem c.reset-2.new.fail c.if-mem-ne-WORDS.false c.reset.result c.reset-2.result c.reset.ensures c.reset-2.ensures)
+shape_of-mem c = reset_long c.args.mem.now c.reset.new.mem _ c.if-mem-ne-WORDS.false (reset_whole c.args.mem.now c.reset.new.mem _ c.if-mem-ne-WORDS.false c.reset.result c.reset-2.result c.reset.ensures c.reset-2.ensures)
 
 pub returns : goal.returns
-returns c = reset_whole c.args.mem.now c.reset.new.mem c.reset-2.new.fail c.if-mem-ne-WORDS.false c.reset.result c.reset-2.result c.reset.ensures c.reset-2.ensures
+returns c = reset_whole c.args.mem.now c.reset.new.mem _ c.if-mem-ne-WORDS.false c.reset.result c.reset-2.result c.reset.ensures c.reset-2.ensures

@@ -1,0 +1,3 @@
+pub mod NegatingLaws
+pub mod TurningLaws
+pub mod OneSidedLaws

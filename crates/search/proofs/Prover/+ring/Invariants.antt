@@ -1,0 +1,76 @@
+use mathlib.Core.Path.{◌≡◌, refl, sym, ◌∙◌, subst}
+use native.Mathlib.Omega.{arith}
+use lib.ListN.{length, length-set}
+use borrow.Author.Rules.{rules}
+use Rattle.logic.specs.Search.{lollis}
+use Rattle.search.specs.Plans.{sequent, Planned, Focused}
+use Rattle.search.proofs.Steps.{stops, nothing_kept}
+use Rattle.search.proofs.Leaves.{fewer, longer, not_full, number_low, pow_small, spelled_by, full_by}
+use Rattle.search.specs.AskedLaws.{stands_later}
+use Rattle.search.proofs.Ready.{ready_after, ready_premise, ready_right, ready_again, ready_rules, ready_zones, stands_made, few_lollis, few_after, counted_hits}
+use Rattle.search.proofs.Visits.{one_up, visit_spent, visit_over, visit_hits, visit_stops, visit_files, visit_full, under_stops, under_room, under_found, both_left_stops, both_right_stops, both_room, both_found}
+use Rattle.search.proofs.Rules.{place_low, on_empty, on_par_long, on_par, on_bottom, on_top, on_with, on_why_not, on_rest, on_full, on_spelled, spelled_stands, lolli_falls}
+use Rattle.search.proofs.Choices.{Choosing, Using, sync_stops, sync_goes, exponentials_go, copies_go, choosing_starts, choosing_goes, choosing_stops, choosing_ends, using_starts, using_goes, using_stops, using_ends, taken_long, taken_under}
+use Rattle.search.proofs.Focused.{Splitting, plus_kept, on_axiom, on_one, on_of_course, on_tensor, on_plus, on_nothing, plus_stops, plus_goes, splitting_starts, splitting_goes, splitting_stops, splitting_ends}
+use Prim.Native.Nat.{ℕ, ◌+◌, ◌-◌, ◌*◌, ◌≤◌, ◌<◌}
+use Rattle.search.proofs.Prover.+ring.Given as goal
+
+abbrev pub decreases-both : goal.decreases-both
+decreases-both l = (l.left + 1) * 1000 + 5
+
+abbrev pub decreases-copies : goal.decreases-copies
+decreases-copies l = (l.left + 1) * 1000 + 10
+
+abbrev pub decreases-exponentials : goal.decreases-exponentials
+decreases-exponentials l = (l.left + 1) * 1000 + 11
+
+abbrev pub decreases-masks : goal.decreases-masks
+decreases-masks l = (l.left + 1) * 1000 + 8
+
+abbrev pub decreases-plus : goal.decreases-plus
+decreases-plus l = (l.left + 1) * 1000 + 8
+
+abbrev pub decreases-positives : goal.decreases-positives
+decreases-positives l = (l.left + 1) * 1000 + 10
+
+abbrev pub decreases-prove_async : goal.decreases-prove_async
+decreases-prove_async l = (l.left + 1) * 1000 + lollis (sequent l.mem.now l.z).linear * 16 + 14
+
+abbrev pub decreases-prove_focused : goal.decreases-prove_focused
+decreases-prove_focused l = (l.left + 1) * 1000 + 9
+
+abbrev pub decreases-prove_sync : goal.decreases-prove_sync
+decreases-prove_sync l = (l.left + 1) * 1000 + 12
+
+abbrev pub decreases-spelled : goal.decreases-spelled
+decreases-spelled l = (l.left + 1) * 1000 + lollis (sequent l.mem.now l.z).linear * 16 + 13
+
+abbrev pub decreases-taken : goal.decreases-taken
+decreases-taken l = (l.left + 1) * 1000 + 8
+
+abbrev pub decreases-under : goal.decreases-under
+decreases-under l = (l.left + 1) * 1000 + 5
+
+abbrev pub decreases-unrestricted : goal.decreases-unrestricted
+decreases-unrestricted l = (l.left + 1) * 1000 + 9
+
+abbrev pub decreases-visit : goal.decreases-visit
+decreases-visit l = l.left * 1000 + lollis (sequent l.mem.now l.z).linear * 16 + 15
+
+abbrev pub invariant-masks-loop-x : goal.invariant-masks-loop-x
+invariant-masks-loop-x l = (l.x ≤ l.n) × (Splitting l.left l.depth l.z l.i l.a l.b l.at l.self l.initial.c1 l.initial.mem l.initial.work l.n l.x l.c1 l.mem l.work × (length l.mem ≡ length l.initial.mem))
+
+abbrev pub decreases-masks-loop-x : goal.decreases-masks-loop-x
+decreases-masks-loop-x l = l.n - l.x
+
+abbrev pub invariant-positives-loop-x : goal.invariant-positives-loop-x
+invariant-positives-loop-x l = (l.x ≤ l.n) × (Choosing l.left l.depth l.z l.at l.self l.initial.c1 l.initial.mem l.initial.work l.x l.c1 l.mem l.work × (length l.mem ≡ length l.initial.mem))
+
+abbrev pub decreases-positives-loop-x : goal.decreases-positives-loop-x
+decreases-positives-loop-x l = l.n - l.x
+
+abbrev pub invariant-unrestricted-loop-x : goal.invariant-unrestricted-loop-x
+invariant-unrestricted-loop-x l = (l.x ≤ l.n) × (Using l.rule l.left l.depth l.z l.at l.self l.initial.c1 l.initial.mem l.initial.work l.x l.c1 l.mem l.work × (length l.mem ≡ length l.initial.mem))
+
+abbrev pub decreases-unrestricted-loop-x : goal.decreases-unrestricted-loop-x
+decreases-unrestricted-loop-x l = l.n - l.x

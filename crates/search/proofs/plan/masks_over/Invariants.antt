@@ -1,0 +1,13 @@
+use mathlib.Core.Path.{◌≡◌, refl, ◌∙◌, ap}
+use Prim.Native.Nat.{ℕ, ◌^◌, ◌-◌, ◌≤◌}
+use native.Mathlib.Nat.{two-pow-succ}
+use native.Mathlib.Numerals.{add-one}
+use Rattle.search.proofs.Leaves.{pow_small}
+use native.Mathlib.Omega.{arith}
+use Rattle.search.proofs.plan.masks_over.Given as goal
+
+abbrev pub invariant-loop-doubled : goal.invariant-loop-doubled
+invariant-loop-doubled l = (l.doubled ≤ l.n) × (l.r ≡ 2 ^ l.doubled)
+
+abbrev pub decreases-loop-doubled : goal.decreases-loop-doubled
+decreases-loop-doubled l = l.n - l.doubled

@@ -1,0 +1,53 @@
+use Rattle.shown.specs.MatchingLaws.{tag_low, one_falls, two_fall, part_compares, next_inside, match_told, match_one, match_left, match_two}
+use borrow.Author.Rules.{rules}
+use native.Mathlib.Omega.{arith}
+use Prim.Native.Nat.{ℕ, ◌<◌}
+use Rattle.shown.proofs.+matches.Goals as goal
+
+pub field-tag-requires : goal.field-tag-requires
+field-tag-requires t c = ((omega (arith, c.requires.low, c.requires.wf.few), omega arith), c.requires.wf.sized)
+
+pub overflow_cast-tag : goal.overflow_cast-tag
+overflow_cast-tag t c = omega (arith, c.field-tag.ensures.value, tag_low c.requires.wf c.requires.low)
+
+pub field-a-requires : goal.field-a-requires
+field-a-requires t c = ((omega (arith, c.requires.low, c.requires.wf.few), omega arith), c.requires.wf.sized)
+
+pub after-requires : goal.after-requires
+after-requires t c = c.requires.inside
+
+pub matches-requires : goal.matches-requires
+matches-requires t c = (omega (arith, c.decreases, c.field-a.ensures.value, one_falls c.match_tops.ensures c.in-One.is), part_compares c.requires c.field-a.ensures (one_falls c.match_tops.ensures c.in-One.is) (omega (arith, c.after.ensures)))
+
+pub field-tag-requires-in-Two : goal.field-tag-requires-in-Two
+field-tag-requires-in-Two t c = ((omega (arith, c.requires.low, c.requires.wf.few), omega arith), c.requires.wf.sized)
+
+pub overflow_cast-tag-in-Two : goal.overflow_cast-tag-in-Two
+overflow_cast-tag-in-Two t c = omega (arith, c.field-tag-in-Two.ensures.value, tag_low c.requires.wf c.requires.low)
+
+pub field-a-requires-in-Two : goal.field-a-requires-in-Two
+field-a-requires-in-Two t c = ((omega (arith, c.requires.low, c.requires.wf.few), omega arith), c.requires.wf.sized)
+
+pub field-b-requires : goal.field-b-requires
+field-b-requires t c = ((omega (arith, c.requires.low, c.requires.wf.few), omega arith), c.requires.wf.sized)
+
+pub after-requires-in-Two : goal.after-requires-in-Two
+after-requires-in-Two t c = c.requires.inside
+
+pub matches-left-requires : goal.matches-left-requires
+matches-left-requires t c = (omega (arith, c.decreases, c.field-a-in-Two.ensures.value, (two_fall c.match_tops.ensures c.in-Two.is).0), part_compares c.requires c.field-a-in-Two.ensures (two_fall c.match_tops.ensures c.in-Two.is).0 (omega (arith, c.after-in-Two.ensures)))
+
+pub returns-in_default : goal.returns-in_default
+returns-in_default t c = match_left c.match_tops.ensures c.field-tag-in-Two.ensures c.field-a-in-Two.ensures c.left_how-in-Two.ensures c.after-in-Two.ensures c.matches-left.ensures c.in-Two.is c.in_default.is
+
+pub matches-requires-in-Two : goal.matches-requires-in-Two
+matches-requires-in-Two t c = (omega (arith, c.decreases, c.field-b.ensures.value, (two_fall c.match_tops.ensures c.in-Two.is).1), part_compares c.requires c.field-b.ensures (two_fall c.match_tops.ensures c.in-Two.is).1 (next_inside c.matches-left.ensures c.in-Same.is))
+
+pub returns-in-Told : goal.returns-in-Told
+returns-in-Told t c = match_told c.match_tops.ensures c.in-Told.is
+
+pub returns-in-One : goal.returns-in-One
+returns-in-One t c = match_one c.match_tops.ensures c.field-tag.ensures c.field-a.ensures c.left_how.ensures c.after.ensures c.matches.ensures c.in-One.is
+
+pub returns-in-Same : goal.returns-in-Same
+returns-in-Same t c = match_two c.match_tops.ensures c.field-tag-in-Two.ensures c.field-a-in-Two.ensures c.left_how-in-Two.ensures c.after-in-Two.ensures c.matches-left.ensures c.in-Two.is c.in-Same.is c.field-b.ensures c.right_how.ensures c.matches-in-Two.ensures

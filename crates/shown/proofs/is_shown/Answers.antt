@@ -1,0 +1,16 @@
+use borrow.Author.Tests.{not-true, not-false}
+use Rattle.shown.specs.ShownLaws.{linear_listed, other_linear, sequent_shown}
+use borrow.Author.Rules.{rules}
+use Rattle.shown.proofs.is_shown.Goals as goal
+
+pub zone_shown-requires : goal.zone_shown-requires
+zone_shown-requires c = (linear_listed c.requires.0, c.node_at-node.ensures.within.linear_within)
+
+pub returns-then-not-zone_shown : goal.returns-then-not-zone_shown
+returns-then-not-zone_shown c = other_linear c.requires.0 c.node_at-node.ensures c.first_decomposable-first.ensures c.zone_shown.ensures c.if-not-zone_shown.true
+
+pub unrestricted_shown-requires : goal.unrestricted_shown-requires
+unrestricted_shown-requires c = (c.requires.0, c.node_at-node.ensures.within.unrestricted_within)
+
+pub returns : goal.returns
+returns c = sequent_shown c.requires.0 c.node_at-node.ensures c.first_decomposable-first.ensures c.zone_shown.ensures c.if-not-zone_shown.false c.unrestricted_shown.ensures
