@@ -32,8 +32,8 @@ use Rattle.search.specs.Plans.{sequent, linear_formula, Two, AxiomAt, Alone, Alo
 use Rattle.search.specs.Contract.{deeper, Ready, Agrees, Leaf, Focuses, Splits, Pluses, Puts, PutsBoth}
 use Rattle.search.proofs.Steps.{tag, Kept, Goes, goes_as, holds_grow, of, stops, or_then, nothing_kept, kept_then, done_nothing, leaf_found}
 use Rattle.search.proofs.Leaves.{linear_length}
-use Rattle.search.specs.AskedLaws.{sequent_later}
-use Rattle.search.proofs.Ready.{kept_now, kept_sequent, below_explored, stands_made}
+use Rattle.search.specs.AskedLaws.{sequent_later, stands_later}
+use Rattle.search.proofs.Ready.{kept_now, kept_sequent, below_explored, stands_made, ready_zones, ready_after}
 use Rattle.search.proofs.Rules.{put_one, put_two, stepped, removed_length, place_low, in_zone}
 use Rattle.search.proofs.Choices.{from_mask, at_mask, masks_starts, masks_go, masks_stop, masks_done}
 
@@ -120,6 +120,12 @@ module _ (left depth : ℕ) {z : Zones} {far at : ℕ} {p : Prover} {c : Counter
 
     pub plus_kept : {x : ℕ} {y : Zones} {r : Outcome} {d : Counters} {m' w' : List ℕ} → Made z (replaced i a) y → x ≡ word 8 i 0 → Puts p left depth y at c m w r m' w' x → r ≡ Nothing d → Kept at p c m w d m' w'
     plus_kept o e u k = nothing_kept (plus_left o e u) k
+
+    pub plus_again : {x : ℕ} {y y' : Zones} {r : Outcome} {d : Counters} {m' w' : List ℕ} → Made z (replaced i a) y → x ≡ word 8 i 0 → Puts p left depth y at c m w r m' w' x → r ≡ Nothing d
+        → Made z (replaced i b) y' → Ready 1 y' far at p d m' w'
+    plus_again o e u k o' =
+        let f = plus_kept o e u k in
+        ready_zones (ready_after ready f) (stands_later f.grew (stands_made ready.zones o' t.right))
 
     pub plus_goes : {x x' : ℕ} {y y' : Zones} {r₁ r : Outcome} {d : Counters} {m₁ w₁ m' w' : List ℕ} → Made z (replaced i a) y → x ≡ word 8 i 0 → Puts p left depth y at c m w r₁ m₁ w₁ x → r₁ ≡ Nothing d
         → Made z (replaced i b) y' → x' ≡ word 9 i 0 → Puts p left depth y' at d m₁ w₁ r m' w' x' → Pluses p left depth z at c m w r m' w' i a b

@@ -11,7 +11,7 @@ use Rattle.search.proofs.Ready.{ready_after, ready_premise, ready_right, ready_a
 use Rattle.search.proofs.Visits.{one_up, visit_spent, visit_over, visit_hits, visit_stops, visit_files, visit_full, under_stops, under_room, under_found, both_left_stops, both_right_stops, both_room, both_found}
 use Rattle.search.proofs.Rules.{place_low, on_empty, on_par_long, on_par, on_bottom, on_top, on_with, on_why_not, on_rest, on_full, on_spelled, spelled_stands, lolli_falls}
 use Rattle.search.proofs.Choices.{Choosing, Using, sync_stops, sync_goes, exponentials_go, copies_go, choosing_starts, choosing_goes, choosing_stops, choosing_ends, using_starts, using_goes, using_stops, using_ends, taken_long, taken_under}
-use Rattle.search.proofs.Focused.{Splitting, plus_kept, on_axiom, on_one, on_of_course, on_tensor, on_plus, on_nothing, plus_stops, plus_goes, splitting_starts, splitting_goes, splitting_stops, splitting_ends}
+use Rattle.search.proofs.Focused.{Splitting, plus_again, on_axiom, on_one, on_of_course, on_tensor, on_plus, on_nothing, plus_stops, plus_goes, splitting_starts, splitting_goes, splitting_stops, splitting_ends}
 use Prim.Native.Nat.{ℕ, ◌+◌, ◌-◌, ◌*◌, ◌≤◌, ◌<◌}
 use Rattle.search.proofs.Prover.+ring.Goals as goal
 
@@ -118,7 +118,7 @@ pub plus-under-r-requires : goal.plus-under-r-requires
 plus-under-r-requires t c = (omega arith, ready_zones c.requires.0 (stands_made c.requires.0.zones c.replaced.ensures c.requires.1.left))
 
 pub plus-returns-in_default : goal.plus-returns-in_default
-plus-returns-in_default t c = plus_stops c.args.left c.args.depth c.requires.0 c.requires.1 c.replaced.ensures c.word.ensures c.under-r.ensures (not_nothing _ c.in_default.not-Nothing)
+plus-returns-in_default t c = plus_stops c.args.left c.args.depth c.requires.0 c.requires.1 c.replaced.ensures c.word.ensures c.under-r.ensures (not_nothing _ (search rules))
 
 pub plus-replaced-requires-2 : goal.plus-replaced-requires-2
 plus-replaced-requires-2 t c = (c.requires.0.zones.fits, c.requires.1.place)
@@ -127,10 +127,10 @@ pub plus-word-requires-2 : goal.plus-word-requires-2
 plus-word-requires-2 t c = (omega arith, (place_low c.args.left c.args.depth c.requires.0 c.requires.1.place, omega arith))
 
 pub plus-under-requires : goal.plus-under-requires
-plus-under-requires t c = (omega arith, ready_zones (ready_after c.requires.0 (plus_kept c.args.left c.args.depth c.requires.0 c.requires.1 c.replaced.ensures c.word.ensures c.under-r.ensures c.in-Nothing.is)) (stands_later (plus_kept c.args.left c.args.depth c.requires.0 c.requires.1 c.replaced.ensures c.word.ensures c.under-r.ensures c.in-Nothing.is).grew (stands_made c.requires.0.zones c.replaced-2.ensures c.requires.1.right)))
+plus-under-requires t c = (omega arith, plus_again c.args.left c.args.depth c.requires.0 c.requires.1 c.replaced.ensures c.word.ensures c.under-r.ensures (search rules) c.replaced-2.ensures)
 
 pub plus-returns : goal.plus-returns
-plus-returns t c = plus_goes c.args.left c.args.depth c.requires.0 c.requires.1 c.replaced.ensures c.word.ensures c.under-r.ensures c.in-Nothing.is c.replaced-2.ensures c.word-2.ensures c.under.ensures
+plus-returns t c = plus_goes c.args.left c.args.depth c.requires.0 c.requires.1 c.replaced.ensures c.word.ensures c.under-r.ensures (search rules) c.replaced-2.ensures c.word-2.ensures c.under.ensures
 
 pub positives-loop-x-init : goal.positives-loop-x-init
 positives-loop-x-init t c = (omega arith, (choosing_starts c.args.left c.args.depth c.requires, refl))

@@ -1,0 +1,12 @@
+use Prim.Native.Nat.{◌-◌}
+use native.Mathlib.Omega.{arith}
+use borrow.Author.Rules.{rules}
+use Rattle.split.specs.Splitting.{Listing}
+use Rattle.split.specs.LabelLaws.{listing_start, listing_last, listing_full, listing_other, listing_next, listing_end, labelled_of, labelled_none}
+use Rattle.split.proofs.labels_of.Given as goal
+
+abbrev pub invariant-loop-p : goal.invariant-loop-p
+invariant-loop-p l = Listing l.mem l.s l.initial.p l.end l.n l.p l.numbers
+
+abbrev pub decreases-loop-p : goal.decreases-loop-p
+decreases-loop-p l = l.end - l.p
