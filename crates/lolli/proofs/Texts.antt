@@ -1,10 +1,9 @@
 -- A text that was written lies within its buffer. Assumes nothing.
-use Rattle.std.proofs.Common.{◌≡◌, refl, sym, ◌∙◌, Bool, true, false, List, ◌++◌, ℕ, ◌≤◌, arith, length, length-append, drop}
+use Rattle.std.proofs.Common.{◌≡◌, refl, Bool, true, false, List, ◌++◌, ℕ, ◌≤◌, arith, length, length-append, drop}
 use lib.Dec.{leb}
 use Rattle.logic.specs.Formula.{Formula}
 use Rattle.wire.specs.Read.{Read, got, refused, read_one}
 use Rattle.formula.specs.Calls.{written, left_in, Writes}
-use Rattle.formula.specs.declared.Written.{Written}
 use Rattle.formula.specs.declared.Written.TheVariants.{Bytes}
 
 module _ (text : Formula → List ℕ) (out last : List ℕ) (n : ℕ) where
