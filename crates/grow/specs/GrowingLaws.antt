@@ -275,10 +275,6 @@ module _ (y : Result Tree × List Formula) {next : ℕ} {out : List ℕ} {to : �
       go mismatch h w = let z : ◌≡◌ {A = ℕ} 0 1 = cc in absurd (omega arith)
       go (refused k) h w = absurd (refuses_whole k e w)
 
--- by the tags that a `let-else` leaves
-pub no_whole : (tag : Grown → ℕ) → ((j k : ℕ) → tag (Whole j k) ≡ 0) → {a : Grown} → (tag a ≡ 1) ⊎ ((tag a ≡ 2) ⊎ (tag a ≡ 3)) → (j k : ℕ) → a ≡ Whole j k → ⊥
-no_whole tag h {a} left j k e = let none : tag a ≡ 0 = ap tag e ∙ h j k in ⊎_elim (λ w. omega arith) (⊎_elim (λ w. omega arith) (λ w. omega arith)) left
-
 -- the code's test
 not_true : (b : Bool) → not b ≡ true → b ≡ false
 not_true true e = sym e

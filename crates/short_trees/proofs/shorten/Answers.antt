@@ -1,0 +1,27 @@
+use mathlib.Core.Path.{sym, ◌∙◌}
+use native.Mathlib.Omega.{arith}
+use borrow.Author.Tests.{not-true, not-false}
+use Rattle.held.proofs.RowSteps.{told, untold}
+use Rattle.memory.specs.MeaningLaws.{wf_length}
+use Rattle.short_trees.specs.Promise.{call_of, shortening}
+use Rattle.short_trees.specs.CallsLaws.{memory_out, question_out, call_enterable, entered_out}
+use borrow.Author.Rules.{rules}
+use Rattle.short_trees.proofs.shorten.Goals as goal
+
+pub returns-then-not-well_formed : goal.returns-then-not-well_formed
+returns-then-not-well_formed c = memory_out shortening (call_of c.args.question.now c.args.full.now c.args.mem.now c.args.out.now) (untold c.well_formed-2.result _ c.well_formed-2.ensures c.if-not-well_formed.true)
+
+pub slice_bounds-shorten_in-end : goal.slice_bounds-shorten_in-end
+slice_bounds-shorten_in-end c = omega (arith, wf_length _ (told c.well_formed-2.result _ c.well_formed-2.ensures c.if-not-well_formed.false))
+
+pub slice_bounds-shorten_in-end-in-Whole : goal.slice_bounds-shorten_in-end-in-Whole
+slice_bounds-shorten_in-end-in-Whole c = sym (told c.well_formed-2.result _ c.well_formed-2.ensures c.if-not-well_formed.false).formulas.sized
+
+pub shorten_in-requires : goal.shorten_in-requires
+shorten_in-requires c = call_enterable shortening (call_of c.args.question.now c.args.full.now c.args.mem.now c.args.out.now) (told c.well_formed-2.result _ c.well_formed-2.ensures c.if-not-well_formed.false) (record { byte = λ k. (c.type_inv.question k).fits }) (sym c.in-Whole.is ∙ c.read_question.ensures) (record { byte = λ k. (c.type_inv.full k).fits })
+
+pub returns-in-Refused : goal.returns-in-Refused
+returns-in-Refused c = question_out shortening (call_of c.args.question.now c.args.full.now c.args.mem.now c.args.out.now) (told c.well_formed-2.result _ c.well_formed-2.ensures c.if-not-well_formed.false) (sym c.in-Refused.is ∙ c.read_question.ensures)
+
+pub returns-in-Whole : goal.returns-in-Whole
+returns-in-Whole c = entered_out shortening (call_of c.args.question.now c.args.full.now c.args.mem.now c.args.out.now) (told c.well_formed-2.result _ c.well_formed-2.ensures c.if-not-well_formed.false) (record { byte = λ k. (c.type_inv.question k).fits }) (sym c.in-Whole.is ∙ c.read_question.ensures) c.shorten_in.ensures
