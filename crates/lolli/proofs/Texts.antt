@@ -1,15 +1,9 @@
 -- A text that was written lies within its buffer. Assumes nothing.
-use mathlib.Core.Path.{◌≡◌, refl, sym, ◌∙◌}
-use mathlib.Core.Bool.{Bool, true, false}
-use mathlib.Core.List.{List, ◌++◌}
-use Prim.Native.Nat.{ℕ, ◌≤◌}
-use native.Mathlib.Omega.{arith}
+use Rattle.std.proofs.Common.{◌≡◌, refl, Bool, true, false, List, ◌++◌, ℕ, ◌≤◌, arith, length, length-append, drop}
 use lib.Dec.{leb}
-use lib.ListN.{length, length-append, drop}
 use Rattle.logic.specs.Formula.{Formula}
 use Rattle.wire.specs.Read.{Read, got, refused, read_one}
 use Rattle.formula.specs.Calls.{written, left_in, Writes}
-use Rattle.formula.specs.declared.Written.{Written}
 use Rattle.formula.specs.declared.Written.TheVariants.{Bytes}
 
 module _ (text : Formula → List ℕ) (out last : List ℕ) (n : ℕ) where
@@ -26,5 +20,5 @@ module _ (text : Formula → List ℕ) (out last : List ℕ) (n : ℕ) where
   within_buffer (got f rest) answer buffer = fitted f rest (leb (length (text f)) (length out)) refl answer buffer
   within_buffer (refused k) answer buffer = let z : ◌≡◌ {A = ℕ} 0 1 = cc in absurd (omega arith)
 
-pub written_within : {text : Formula → List ℕ} {s out last : List ℕ} {r : Written} {n : ℕ} → Writes text s out r last → r ≡ Bytes n → n ≤ length last
-written_within {text} {s} {out} {last} {r} {n} w told = within_buffer text out last n (read_one s) (sym told ∙ w.answer) w.buffer
+pub written_within : {text : Formula → List ℕ} {s out last : List ℕ} {n : ℕ} → Writes text s out (Bytes n) last → n ≤ length last
+written_within {text} {s} {out} {last} {n} w = within_buffer text out last n (read_one s) w.answer w.buffer

@@ -6,14 +6,14 @@
 ghost use Rattle.std.specs.Prelude.{◌<◌};
 
 use super::words::{copy, put, say_answer};
-use libc::STDOUT_FILENO;
-use stored::byte;
+use std::io;
+use stored::{Unread, byte};
 
 // The next digit; 0 where the next byte is none.
-fn digit() -> usize
+fn digit(list: &mut Unread<'_>) -> usize
     ensures { result < 10 }
 {
-    let b = byte();
+    let b = byte(list);
     if b < 48 {
         return 0;
     }
@@ -23,80 +23,80 @@ fn digit() -> usize
     b - 48
 }
 
-fn number() -> usize
+fn number(list: &mut Unread<'_>) -> usize
     ensures { result < 100000 }
 {
-    let a = digit();
-    let b = digit();
-    let c = digit();
-    let d = digit();
-    let e = digit();
-    byte();
+    let a = digit(list);
+    let b = digit(list);
+    let c = digit(list);
+    let d = digit(list);
+    let e = digit(list);
+    byte(list);
     10000 * a + 1000 * b + 100 * c + 10 * d + e
 }
 
 // A number that fits a word; 0 for any other.
-fn word() -> u16 {
-    let n = number();
+fn word(list: &mut Unread<'_>) -> u16 {
+    let n = number(list);
     if n < 65536 { n as u16 } else { 0 }
 }
 
-fn run(mem: &mut [u16]) {
-    let at = number();
-    let n = number();
-    let mut k = 0;
-    while k < n {
-        put(mem, at + k, word());
-        k += 1;
+fn run(list: &mut Unread<'_>, mem: &mut [u16]) {
+    let at = number(list);
+    let n = number(list);
+    for k in 0..n {
+        put(mem, at + k, word(list));
     }
 }
 
 // All runs of a change.
-fn change(mem: &mut [u16]) {
-    let n = number();
+fn change(list: &mut Unread<'_>, mem: &mut [u16]) {
+    let n = number(list);
     if n == 0 {
         memory::reset(mem);
         return;
     }
-    let mut k = 0;
-    while k < n {
-        run(mem);
-        k += 1;
+    for _ in 0..n {
+        run(list, mem);
     }
 }
 
 // The rest of the line, of at most 100 bytes, as it stands.
-fn say_line() {
-    let mut left: usize = 100;
-    while 0 < left {
-        let b = byte();
+fn say_line(rt: &impl Print, list: &mut Unread<'_>) -> io::Result<()> {
+    for _ in 0..100 {
+        let b = byte(list);
         if b == 10 {
-            return;
+            return Ok(());
         }
         let text = [b as u8];
-        io::write_all(STDOUT_FILENO, &text);
-        left -= 1;
+        rt.write_all(&text)?;
     }
+    Ok(())
 }
 
-fn tried(good: &mut [u16], mem: &mut [u16]) {
-    change(mem);
-    say_line();
+fn tried(
+    rt: &impl Print,
+    list: &mut Unread<'_>,
+    good: &mut [u16],
+    mem: &mut [u16],
+) -> io::Result<()> {
+    change(list, mem);
+    say_line(rt, list)?;
     let fine = memory::well_formed(mem);
-    say_answer(fine);
+    say_answer(rt, fine)?;
     if fine {
         copy(mem, good);
     } else {
         copy(good, mem);
     }
+    Ok(())
 }
 
-pub fn each(mem: &mut [u16]) {
+pub fn each(rt: &impl Print, list: &mut Unread<'_>, mem: &mut [u16]) -> io::Result<()> {
     let mut good = [0u16; memory::WORDS];
-    let n = number();
-    let mut k = 0;
-    while k < n {
-        tried(&mut good, mem);
-        k += 1;
+    let n = number(list);
+    for _ in 0..n {
+        tried(rt, list, &mut good, mem)?;
     }
+    Ok(())
 }

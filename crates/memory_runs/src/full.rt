@@ -1,6 +1,7 @@
 // A memory filled with formulas, and with failures: what is answered where there is no room, and that no word changes then.
 use super::words::{copy, put, put_failure, put_formula, put_order, say, say_both, say_number};
 use memory::shape::{Shape, Spelling, shape_at};
+use std::io;
 use zones::Zones;
 
 // No answer of document 01: the formula is not held, or no implication.
@@ -44,11 +45,9 @@ fn record_one(mem: &mut [u16], x: u16) -> u8 {
 // a0 up to a2043.
 fn write_names(mem: &mut [u16]) {
     memory::reset(mem);
-    let mut i: u16 = 0;
-    while i < 2044 {
+    for i in 0..2044 {
         put_formula(mem, i, 4, i, 0, 1, 3);
         put_order(mem, i, i);
-        i += 1;
     }
 }
 
@@ -62,50 +61,54 @@ fn write_implications(mem: &mut [u16]) {
 }
 
 // a0⊸a1 wants two formulas more, the negation of a0 and its own spelling.
-fn formulas(mem: &mut [u16]) {
+fn formulas(rt: &impl Print, mem: &mut [u16]) -> io::Result<()> {
     write_names(mem);
     write_implications(mem);
-    say(b"2,046 formulas", memory::well_formed(mem));
-    say_number(b"the 2,047th and 2,048th formula", spell(mem, 2044));
-    say(b"2,048 formulas", memory::well_formed(mem));
+    say(rt, b"2,046 formulas", memory::well_formed(mem))?;
+    say_number(rt, b"the 2,047th and 2,048th formula", spell(mem, 2044))?;
+    say(rt, b"2,048 formulas", memory::well_formed(mem))
 }
 
 // a1⊸a0 wants two more again.
-fn one_formula_more(mem: &mut [u16]) {
+fn one_formula_more(rt: &impl Print, mem: &mut [u16]) -> io::Result<()> {
     let mut before = [0u16; memory::WORDS];
     copy(mem, &mut before);
-    say_both(b"the same again", spell(mem, 2044), mem, &before);
-    say_both(b"the 2,049th formula", spell(mem, 2045), mem, &before);
+    say_both(rt, b"the same again", spell(mem, 2044), mem, &before)?;
+    say_both(rt, b"the 2,049th formula", spell(mem, 2045), mem, &before)
 }
 
 // The sequents a1 up to a999, each of one formula.
 fn write_failures(mem: &mut [u16]) {
-    let mut i: u16 = 0;
-    while i < 999 {
+    for i in 0..999 {
         put_failure(mem, i, 2 * i + 2);
-        i += 1;
     }
     put(mem, 12289, 999);
 }
 
 // a0 comes before all of them: every order word moves.
-fn failures(mem: &mut [u16]) {
+fn failures(rt: &impl Print, mem: &mut [u16]) -> io::Result<()> {
     write_failures(mem);
-    say(b"999 failures", memory::well_formed(mem));
-    say_number(b"the 1,000th failure", record_one(mem, 0));
-    say(b"1,000 failures", memory::well_formed(mem));
+    say(rt, b"999 failures", memory::well_formed(mem))?;
+    say_number(rt, b"the 1,000th failure", record_one(mem, 0))?;
+    say(rt, b"1,000 failures", memory::well_formed(mem))
 }
 
-fn one_failure_more(mem: &mut [u16]) {
+fn one_failure_more(rt: &impl Print, mem: &mut [u16]) -> io::Result<()> {
     let mut before = [0u16; memory::WORDS];
     copy(mem, &mut before);
-    say_both(b"one that is known", record_one(mem, 17), mem, &before);
-    say_both(b"the 1,001st failure", record_one(mem, 1000), mem, &before);
+    say_both(rt, b"one that is known", record_one(mem, 17), mem, &before)?;
+    say_both(
+        rt,
+        b"the 1,001st failure",
+        record_one(mem, 1000),
+        mem,
+        &before,
+    )
 }
 
-pub fn fill(mem: &mut [u16]) {
-    formulas(mem);
-    one_formula_more(mem);
-    failures(mem);
-    one_failure_more(mem);
+pub fn fill(rt: &impl Print, mem: &mut [u16]) -> io::Result<()> {
+    formulas(rt, mem)?;
+    one_formula_more(rt, mem)?;
+    failures(rt, mem)?;
+    one_failure_more(rt, mem)
 }

@@ -1,5 +1,5 @@
 // Writing and comparing words, and saying an answer. A place that a slice has not is not written.
-use libc::STDOUT_FILENO;
+use std::io;
 
 pub fn put(mem: &mut [u16], at: usize, v: u16) {
     if at < mem.len() {
@@ -32,10 +32,8 @@ pub fn put_failure(mem: &mut [u16], i: u16, x: u16) {
 
 // The words of one slice written over another's.
 pub fn copy(from: &[u16], to: &mut [u16]) {
-    let mut k = 0;
-    while k < from.len() {
+    for k in 0..from.len() {
         put(to, k, from[k]);
-        k += 1;
     }
 }
 
@@ -44,53 +42,57 @@ pub fn same(a: &[u16], b: &[u16]) -> bool {
     if a.len() != b.len() {
         return false;
     }
-    let mut k = 0;
-    while k < a.len() {
+    for k in 0..a.len() {
         if a[k] != b[k] {
             return false;
         }
-        k += 1;
     }
     true
 }
 
 // The answer of the test, as document 01 numbers it.
-pub fn say_answer(fine: bool) {
+pub fn say_answer(rt: &impl Print, fine: bool) -> io::Result<()> {
     if fine {
-        io::write_all(STDOUT_FILENO, b": 0\n");
+        println!(rt; ": 0")
     } else {
-        io::write_all(STDOUT_FILENO, b": 12\n");
+        println!(rt; ": 12")
     }
 }
 
-pub fn say(what: &[u8], fine: bool) {
-    io::write_all(STDOUT_FILENO, what);
-    say_answer(fine);
+pub fn say(rt: &impl Print, what: &[u8], fine: bool) -> io::Result<()> {
+    rt.write_all(what)?;
+    say_answer(rt, fine)
 }
 
 // An answer that may be 0, 7, 9 or 12.
-pub fn say_number(what: &[u8], answer: u8) {
-    io::write_all(STDOUT_FILENO, what);
+pub fn say_number(rt: &impl Print, what: &[u8], answer: u8) -> io::Result<()> {
+    rt.write_all(what)?;
     match answer {
-        0 => io::write_all(STDOUT_FILENO, b": 0\n"),
-        7 => io::write_all(STDOUT_FILENO, b": 7\n"),
-        9 => io::write_all(STDOUT_FILENO, b": 9\n"),
-        12 => io::write_all(STDOUT_FILENO, b": 12\n"),
-        _ => io::write_all(STDOUT_FILENO, b": another answer\n"),
-    };
+        0 => println!(rt; ": 0"),
+        7 => println!(rt; ": 7"),
+        9 => println!(rt; ": 9"),
+        12 => println!(rt; ": 12"),
+        _ => println!(rt; ": another answer"),
+    }
 }
 
 // Whether all words are as before.
-pub fn say_kept(kept: bool) {
+pub fn say_kept(rt: &impl Print, kept: bool) -> io::Result<()> {
     if kept {
-        io::write_all(STDOUT_FILENO, b"  every word as before\n");
+        println!(rt; "  every word as before")
     } else {
-        io::write_all(STDOUT_FILENO, b"  words changed\n");
+        println!(rt; "  words changed")
     }
 }
 
 // An answer, and whether all words are as before.
-pub fn say_both(what: &[u8], answer: u8, mem: &[u16], before: &[u16]) {
-    say_number(what, answer);
-    say_kept(same(mem, before));
+pub fn say_both(
+    rt: &impl Print,
+    what: &[u8],
+    answer: u8,
+    mem: &[u16],
+    before: &[u16],
+) -> io::Result<()> {
+    say_number(rt, what, answer)?;
+    say_kept(rt, same(mem, before))
 }

@@ -1,10 +1,13 @@
 // Replays the oracle's answers on formulas (docs/ORACLE.md): every formula of the list is negated, spelled out, judged positive or not and printed twice, and each answer is compared with
 // what the Rust said, byte for byte. Then formulas at the limits of document 01, whose answers are settled.
+#![tactic(auto)]
+
 use formula::{Positive, Written};
-use stored::{MOST_RECORDS, Tally};
+use std::io;
+use stored::{MOST_RECORDS, Tally, Unread};
 
 // The calls that write.
-#[derive(Drop)]
+#[derive(Clone, Copy)]
 pub enum Call {
     Negate,
     Desugar,
@@ -30,17 +33,18 @@ fn is_written(w: Written, out: &[u8], bytes: &[u8]) -> bool {
 }
 
 // The call writes what the list has next.
-fn writes(call: Call, s: &[u8]) -> bool {
-    let mut said = io::large_buffer();
-    let n = stored::bytes(&mut said, stored::number());
-    let mut out = io::large_buffer();
+fn writes(list: &mut Unread<'_>, call: Call, s: &[u8]) -> bool {
+    let mut said = stored::large_buffer();
+    let length = stored::number(list);
+    let n = stored::bytes(list, &mut said, length);
+    let mut out = stored::large_buffer();
     let w = answer(call, s, &mut out);
     is_written(w, &out, &said[..n])
 }
 
 // `is_positive` says what the list has next.
-fn judges(s: &[u8]) -> bool {
-    let said = stored::byte();
+fn judges(list: &mut Unread<'_>, s: &[u8]) -> bool {
+    let said = stored::byte(list);
     let Positive::Is(is_positive) = formula::is_positive(s) else {
         return false;
     };
@@ -48,26 +52,25 @@ fn judges(s: &[u8]) -> bool {
 }
 
 // All five answers on the formula are the list's.
-fn agrees(s: &[u8]) -> bool {
-    let negates = writes(Call::Negate, s);
-    let desugars = writes(Call::Desugar, s);
-    let is_judged = judges(s);
-    let prints = writes(Call::Pretty, s);
-    let prints_ascii = writes(Call::PrettyAscii, s);
+fn agrees(list: &mut Unread<'_>, s: &[u8]) -> bool {
+    let negates = writes(list, Call::Negate, s);
+    let desugars = writes(list, Call::Desugar, s);
+    let is_judged = judges(list, s);
+    let prints = writes(list, Call::Pretty, s);
+    let prints_ascii = writes(list, Call::PrettyAscii, s);
     negates && desugars && is_judged && prints && prints_ascii
 }
 
-fn replay() -> Tally {
+fn replay(list: &mut Unread<'_>) -> Tally {
     let mut tally = Tally::new();
-    let mut left = MOST_RECORDS;
-    while left > 0 {
-        left -= 1;
-        let mut buf = io::large_buffer();
-        let n = stored::bytes(&mut buf, stored::number());
+    for _ in 0..MOST_RECORDS {
+        let mut buf = stored::large_buffer();
+        let length = stored::number(list);
+        let n = stored::bytes(list, &mut buf, length);
         if n == 0 {
             return tally;
         }
-        tally = tally.with(agrees(&buf[..n]));
+        tally = tally.with(agrees(list, &buf[..n]));
     }
     tally
 }
@@ -168,8 +171,9 @@ fn high_rows() -> Tally {
     t.with(high_row(63, 0, 13, 65, ROOM, 3))
 }
 
-fn main() {
-    replay().print(b" formulas");
-    short_rows().print(b" settled answers at short formulas");
-    high_rows().print(b" settled answers at the highest level");
+fn main(rt: HostRuntime) -> io::Result<()> {
+    let input = stored::input(&rt)?;
+    replay(&mut Unread::of(&input)).print(&rt, b" formulas")?;
+    short_rows().print(&rt, b" settled answers at short formulas")?;
+    high_rows().print(&rt, b" settled answers at the highest level")
 }

@@ -1,11 +1,14 @@
 // Replays the list of two-sided questions (docs/ORACLE.md): each is made one-sided, and every byte is compared with what sequent.rs's `to_one_sided` made of it; made one-sided again, it stays as it is. Then questions
 // whose answers are settled: at the limits of document 01, and in the order of its refusals.
+#![tactic(auto)]
+
 use formula::Written;
-use stored::{MOST_RECORDS, Tally};
+use std::io;
+use stored::{MOST_RECORDS, Tally, Unread};
 
 // The question is written as these bytes.
 fn becomes(s: &[u8], bytes: &[u8]) -> bool {
-    let mut out = io::large_buffer();
+    let mut out = stored::large_buffer();
     let Written::Bytes(n) = question::to_one_sided(s, &mut out) else {
         return false;
     };
@@ -13,26 +16,26 @@ fn becomes(s: &[u8], bytes: &[u8]) -> bool {
 }
 
 // The question becomes what the list has next, which stays as it is.
-fn agrees(s: &[u8]) -> bool {
-    let mut said = io::large_buffer();
-    let n = stored::bytes(&mut said, stored::number());
+fn agrees(list: &mut Unread<'_>, s: &[u8]) -> bool {
+    let mut said = stored::large_buffer();
+    let length = stored::number(list);
+    let n = stored::bytes(list, &mut said, length);
     let one_sided = &said[..n];
     let turns = becomes(s, one_sided);
     let stays = becomes(one_sided, one_sided);
     turns && stays
 }
 
-fn replay() -> Tally {
+fn replay(list: &mut Unread<'_>) -> Tally {
     let mut tally = Tally::new();
-    let mut left = MOST_RECORDS;
-    while left > 0 {
-        left -= 1;
-        let mut buf = io::large_buffer();
-        let n = stored::bytes(&mut buf, stored::number());
+    for _ in 0..MOST_RECORDS {
+        let mut buf = stored::large_buffer();
+        let length = stored::number(list);
+        let n = stored::bytes(list, &mut buf, length);
         if n == 0 {
             return tally;
         }
-        tally = tally.with(agrees(&buf[..n]));
+        tally = tally.with(agrees(list, &buf[..n]));
     }
     tally
 }
@@ -166,10 +169,11 @@ fn heights() -> Tally {
     t.with(high(1, 63, 4, 3))
 }
 
-fn main() {
-    replay().print(b" questions");
-    heads().print(b" settled answers at the head");
-    zones().print(b" settled answers at zones");
-    widths().print(b" settled answers at wide questions");
-    heights().print(b" settled answers at high formulas");
+fn main(rt: HostRuntime) -> io::Result<()> {
+    let input = stored::input(&rt)?;
+    replay(&mut Unread::of(&input)).print(&rt, b" questions")?;
+    heads().print(&rt, b" settled answers at the head")?;
+    zones().print(&rt, b" settled answers at zones")?;
+    widths().print(&rt, b" settled answers at wide questions")?;
+    heights().print(&rt, b" settled answers at high formulas")
 }

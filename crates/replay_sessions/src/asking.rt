@@ -11,7 +11,7 @@ pub const BUDGET: usize = 16384;
 pub const MESSAGE: usize = 65539;
 
 // Document 01's number of the answer, the counters, and how many bytes of a tree were written.
-#[derive(Drop)]
+#[derive(Clone, Copy)]
 pub struct Said {
     pub answer: usize,
     pub explored: usize,
@@ -43,7 +43,7 @@ fn told(answer: Answer) -> Said {
 }
 
 // How a question is asked.
-#[derive(Drop)]
+#[derive(Clone, Copy)]
 pub struct Settings {
     pub limit: usize,
     pub budget: usize,

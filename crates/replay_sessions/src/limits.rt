@@ -214,10 +214,8 @@ fn enter_atom(name: usize, mem: &mut [u16]) {
 
 // The atoms from one name up to another are entered into a memory.
 pub fn fill(from: usize, to: usize, mem: &mut [u16]) {
-    let mut name = from;
-    while name < to {
+    for name in from..to {
         enter_atom(name, mem);
-        name += 1;
     }
 }
 
@@ -243,11 +241,9 @@ pub fn formulas() -> Tally {
 // So many failures are recorded, one of each atom.
 fn fail(count: usize, mem: &mut [u16]) -> Tally {
     let mut tally = Tally::new();
-    let mut name = 0;
-    while name < count {
+    for name in 0..count {
         let held = name + 1;
         tally = tally.with(asks_atom(name, mem, wanted(1, 1, 0, 0, held, held)));
-        name = held;
     }
     tally
 }

@@ -37,10 +37,8 @@ pub fn atom(buf: &mut [u8], at: usize, name: usize) -> usize {
 // The atoms from one name up to another.
 pub fn atoms(buf: &mut [u8], at: usize, from: usize, to: usize) -> usize {
     let mut next = at;
-    let mut name = from;
-    while name < to {
+    for name in from..to {
         next = atom(buf, next, name);
-        name += 1;
     }
     next
 }
@@ -48,10 +46,8 @@ pub fn atoms(buf: &mut [u8], at: usize, from: usize, to: usize) -> usize {
 // 1 under so many !. Its height and its size are one more.
 pub fn tower(buf: &mut [u8], at: usize, levels: usize) -> usize {
     let mut next = at;
-    let mut i = 0;
-    while i < levels {
+    for _ in 0..levels {
         next = byte(buf, next, OF_COURSE);
-        i += 1;
     }
     byte(buf, next, ONE)
 }
@@ -59,10 +55,8 @@ pub fn tower(buf: &mut [u8], at: usize, levels: usize) -> usize {
 // So many towers.
 pub fn towers(buf: &mut [u8], at: usize, levels: usize, count: usize) -> usize {
     let mut next = at;
-    let mut i = 0;
-    while i < count {
+    for _ in 0..count {
         next = tower(buf, next, levels);
-        i += 1;
     }
     next
 }
@@ -70,11 +64,9 @@ pub fn towers(buf: &mut [u8], at: usize, levels: usize, count: usize) -> usize {
 // ⊤&(⊤&(.. ⊤)), of so many &.
 pub fn comb(buf: &mut [u8], at: usize, levels: usize) -> usize {
     let mut next = at;
-    let mut i = 0;
-    while i < levels {
+    for _ in 0..levels {
         next = byte(buf, next, WITH);
         next = byte(buf, next, TOP);
-        i += 1;
     }
     byte(buf, next, TOP)
 }

@@ -1,23 +1,26 @@
 // Replays the list of trees (docs/ORACLE.md): the depth of every tree and shape mode's verdict on it, with rule, node, wrappers, expected and got, are compared with what the Rust said, and strict mode's
 // verdict with what the model said. Then trees whose answers are settled.
+#![tactic(auto)]
+
 mod settled;
 mod verdict;
 
 ghost use Rattle.std.specs.Prelude.{◌≡◌, length};
 
-use stored::{MOST_RECORDS, Tally};
+use std::io;
+use stored::{MOST_RECORDS, Tally, Unread};
 use tree::Measured;
 use verdict::{Verdict, same, told};
 
 // The verdict that the list has next.
-fn said() -> Verdict {
+fn said(list: &mut Unread<'_>) -> Verdict {
     Verdict {
-        answer: stored::byte(),
-        rule: stored::byte(),
-        node: stored::number(),
-        wrappers: stored::number(),
-        expected: stored::byte(),
-        got: stored::byte(),
+        answer: stored::byte(list),
+        rule: stored::byte(list),
+        node: stored::number(list),
+        wrappers: stored::number(list),
+        expected: stored::byte(list),
+        got: stored::byte(list),
     }
 }
 
@@ -30,10 +33,10 @@ fn is_deep(s: &[u8], depth: usize) -> bool {
 }
 
 // The tree's depth and the verdicts on it are the list's.
-fn agrees(s: &[u8]) -> bool {
-    let measures = is_deep(s, stored::number());
-    let verifies = same(told(verify::verify(s)), said());
-    let is_strict = same(told(verify::verify_strict(s)), said());
+fn agrees(list: &mut Unread<'_>, s: &[u8]) -> bool {
+    let measures = is_deep(s, stored::number(list));
+    let verifies = same(told(verify::verify(s)), said(list));
+    let is_strict = same(told(verify::verify_strict(s)), said(list));
     measures && verifies && is_strict
 }
 
@@ -44,33 +47,33 @@ fn message() -> [u8; 65538]
     [0; 65538]
 }
 
-fn replay() -> Tally {
+fn replay(list: &mut Unread<'_>) -> Tally {
     let mut tally = Tally::new();
-    let mut left = MOST_RECORDS;
-    while left > 0 {
-        left -= 1;
+    for _ in 0..MOST_RECORDS {
         let mut buf = message();
-        let n = stored::bytes(&mut buf, stored::long_number());
+        let length = stored::long_number(list);
+        let n = stored::bytes(list, &mut buf, length);
         if n == 0 {
             return tally;
         }
-        tally = tally.with(agrees(&buf[..n]));
+        tally = tally.with(agrees(list, &buf[..n]));
     }
     tally
 }
 
 // What is refused in reading, and what in checking.
-fn print_short() {
-    settled::frames().print(b" settled answers at the frame");
-    settled::nodes().print(b" settled answers at a node");
-    settled::verdicts().print(b" settled verdicts");
-    settled::steps().print(b" settled steps");
+fn print_short(rt: &impl Print) -> io::Result<()> {
+    settled::frames().print(rt, b" settled answers at the frame")?;
+    settled::nodes().print(rt, b" settled answers at a node")?;
+    settled::verdicts().print(rt, b" settled verdicts")?;
+    settled::steps().print(rt, b" settled steps")
 }
 
-fn main() {
-    replay().print(b" trees");
-    print_short();
-    settled::widths().print(b" settled answers at wide sequents");
-    settled::chains().print(b" settled answers at high trees");
-    settled::heights().print(b" settled answers at high formulas");
+fn main(rt: HostRuntime) -> io::Result<()> {
+    let input = stored::input(&rt)?;
+    replay(&mut Unread::of(&input)).print(&rt, b" trees")?;
+    print_short(&rt)?;
+    settled::widths().print(&rt, b" settled answers at wide sequents")?;
+    settled::chains().print(&rt, b" settled answers at high trees")?;
+    settled::heights().print(&rt, b" settled answers at high formulas")
 }

@@ -3,7 +3,7 @@ use formula::Refusal;
 use verify::Verified;
 
 // The answer, and what it tells of the node that fails. What an answer does not tell is 0.
-#[derive(Drop)]
+#[derive(Clone, Copy)]
 pub struct Verdict {
     pub answer: usize,
     pub rule: usize,

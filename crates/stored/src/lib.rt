@@ -1,15 +1,17 @@
 // The oracle's stored lists (docs/ORACLE.md, "The files") as standard input, and a tally of what differs from them.
-ghost use Rattle.std.specs.Prelude.{◌<◌};
-ghost use Rattle.io.specs.Counts.{IsPrefixLen};
+#![tactic(auto)]
 
-use check::same;
-use libc::{STDIN_FILENO, STDOUT_FILENO};
+ghost use Rattle.std.specs.Prelude.{◌≡◌, ◌<◌, min, length};
+ghost use Rattle.std.specs.Counts.{IsPrefixLen};
+
+use std::io;
+use std::io::Read;
 
 // No list has more records, so a loop over one counts them down from here.
 pub const MOST_RECORDS: usize = 1000000;
 
 // How many were compared, and how many of them differ.
-#[derive(Drop)]
+#[derive(Clone, Copy)]
 pub struct Tally {
     pub compared: u64,
     pub differing: u64,
@@ -43,15 +45,39 @@ impl Tally {
     }
 
     // As `3142 formulas, 0 differing`.
-    pub fn print(self, what: &[u8]) {
+    pub fn print(self, rt: &impl Print, what: &[u8]) -> io::Result<()> {
         let compared = self.compared;
         let differing = self.differing;
-        io::print_decimal(STDOUT_FILENO, compared);
-        io::write_all(STDOUT_FILENO, what);
-        io::write_all(STDOUT_FILENO, b", ");
-        io::print_decimal(STDOUT_FILENO, differing);
-        io::write_all(STDOUT_FILENO, b" differing\n");
+        print!(rt; "{compared}")?;
+        rt.write_all(what)?;
+        println!(rt; ", {differing} differing")
     }
+}
+
+// All of standard input.
+pub fn input(rt: &(impl Input + AllocGlobal)) -> io::Result<Vec<u8>> {
+    let mut input = Vec::new(rt.alloc());
+    rt.reader().read_to_end(&mut input)?;
+    Ok(input)
+}
+
+// What is still to be read of a list.
+#[derive(Drop)]
+pub struct Unread<'a> {
+    rest: &'a [u8],
+}
+
+impl<'a> Unread<'a> {
+    pub fn of(list: &'a [u8]) -> Self {
+        Unread { rest: list }
+    }
+}
+
+// 65,536 zeros: room for the longest bytes behind a number of two bytes.
+pub fn large_buffer() -> [u8; 65536]
+    ensures { 65536 ≡ length result }
+{
+    [0; 65536]
 }
 
 fn wide(b: u8) -> usize
@@ -61,41 +87,48 @@ fn wide(b: u8) -> usize
 }
 
 // The next byte, and the next numbers of two and of four bytes. Past the end of the list they are 0.
-pub fn byte() -> usize
+pub fn byte(list: &mut Unread<'_>) -> usize
     ensures { result < 256 }
 {
-    let mut b = [0u8; 1];
-    io::read_full(STDIN_FILENO, &mut b);
-    wide(b[0])
+    let Some((b, rest)) = list.rest.split_first() else {
+        return 0;
+    };
+    list.rest = rest;
+    wide(*b)
 }
 
-pub fn number() -> usize
+pub fn number(list: &mut Unread<'_>) -> usize
     ensures { result < 65536 }
 {
-    let high = byte();
-    let low = byte();
+    let high = byte(list);
+    let low = byte(list);
     high * 256 + low
 }
 
-pub fn long_number() -> usize {
-    let high = number();
-    let low = number();
+pub fn long_number(list: &mut Unread<'_>) -> usize {
+    let high = number(list);
+    let low = number(list);
     high * 65536 + low
 }
 
 // The next so many bytes, to the front of `buf`, and how many there were. More than `buf` holds are none.
-pub fn bytes(buf: &mut [u8], n: usize) -> usize
+pub fn bytes(list: &mut Unread<'_>, buf: &mut [u8], n: usize) -> usize
     ensures { IsPrefixLen result buf.new }
 {
     if buf.len() < n {
         return 0;
     }
-    io::read_full(STDIN_FILENO, &mut buf[..n])
+    let k = at_most(n, list.rest);
+    let (next, rest) = list.rest.split_at(k);
+    buf[..k].copy_from_slice(next);
+    list.rest = rest;
+    k
 }
 
 // A number of the bytes of `buf`: n, or all of them where there are fewer.
 pub fn at_most(n: usize, buf: &[u8]) -> usize
-    ensures { IsPrefixLen result buf.now }
+    ensures in_bounds { IsPrefixLen result buf.now }
+    ensures value { result ≡ min n (length buf.now) }
 {
     if n < buf.len() { n } else { buf.len() }
 }
@@ -106,5 +139,5 @@ pub fn starts(buf: &[u8], n: usize, bytes: &[u8]) -> bool {
         return false;
     }
     let n = at_most(n, buf);
-    same(&buf[..n], bytes)
+    &buf[..n] == bytes
 }
