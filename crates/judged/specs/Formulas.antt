@@ -1,6 +1,6 @@
 -- The definitions judged by the Rust: formula.rs: `negate`, `desugar`, `is_positive`, `pretty`, `pretty_ascii`. A sample of the stored list, printed by the oracle's `sample`.
 -- Assumes nothing.
-use Rattle.std.specs.Prelude.{◌≡◌, refl, true, false, List, [], ◌∷◌}
+use Rattle.std.specs.Prelude.{◌≡◌, refl, true, List, [], ◌∷◌}
 use Rattle.logic.specs.Formula.{negate, desugar, is_positive}
 use Rattle.logic.specs.Text.{printed, digits_within}
 use Rattle.wire.specs.Write.{write_formula}

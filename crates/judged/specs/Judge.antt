@@ -1,9 +1,8 @@
 -- A row of the stored list beside what the definitions compute: the bytes go through the readers and writers of the byte forms, so these are judged too. Assumes nothing.
-use Rattle.std.specs.Prelude.{Bool, true, false, ◌&&◌, List, [], ◌∷◌, ◌++◌, ℕ, eqb, length}
+use Rattle.std.specs.Prelude.{Bool, true, false, ◌&&◌, List, [], ◌∷◌, ℕ, eqb, length}
 use Rattle.logic.specs.Formula.{Formula, negate, desugar, is_positive}
 use Rattle.logic.specs.Text.{pretty, pretty_ascii}
-use Rattle.logic.specs.Sequent.{Question}
-use Rattle.logic.specs.Tree.{Tree, depth}
+use Rattle.logic.specs.Tree.{depth}
 use Rattle.logic.specs.Key.{Key, contains}
 use Rattle.logic.specs.Outcome.{Outcome, found, nothing, refused, outcome_number, State, Memory}
 use Rattle.logic.specs.Search.{as_stated, ask}

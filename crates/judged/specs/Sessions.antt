@@ -17,7 +17,7 @@ use Rattle.wire.specs.Write.{write_formula, write_formulas, write_zone, message,
 use Rattle.wire.specs.Read.{◌then◌, entry, read_byte, read_two, read_parts, read_formula}
 use Rattle.wire.specs.Read.{read_formulas, read_bytes, zone_bytes, at_end, read_message, read_question}
 use Rattle.judged.specs.Judge.{same_bytes, all, recorded, judge_asked, judge_session}
-use Rattle.judged.specs.Judge.{SessionRow, Asked, asked, session}
+use Rattle.judged.specs.Judge.{SessionRow, asked, session}
 
 pub rows_0 : List SessionRow
 rows_0 =

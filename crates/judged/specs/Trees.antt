@@ -1,6 +1,6 @@
 -- The definitions judged by the Rust: proof.rs and verify.rs: `depth`, `verify_proof`. A sample of the stored list, printed by the oracle's `sample`.
 -- Assumes nothing.
-use Rattle.std.specs.Prelude.{◌≡◌, refl, true, false, List, [], ◌∷◌}
+use Rattle.std.specs.Prelude.{◌≡◌, refl, true, List, [], ◌∷◌}
 use Rattle.logic.specs.Formula.{negate, same, among}
 use Rattle.logic.specs.Tree.{depth, nodes, premise_count}
 use Rattle.logic.specs.Parts.{left_part, right_part, is_literal}
