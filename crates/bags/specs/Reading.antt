@@ -1,5 +1,5 @@
 -- How a formula of a message is read, and what its tag and its parts are then. Assumes nothing.
-use Rattle.std.specs.Prelude.{true, false, List, [], ◌∷◌, ◌++◌, ℕ, ◌+◌, ◌≤◌, ◌<◌, max, eqb}
+use Rattle.std.specs.Prelude.{true, false, List, [], ◌++◌, ℕ, ◌+◌, ◌≤◌, ◌<◌, max, eqb}
 use Rattle.logic.specs.Formula.{Formula, One, Bottom, Top, Zero, Atom, NegAtom, Tensor, Par, With, Plus, Lolli, OfCourse, WhyNot, negate, spell, size, height}
 use Rattle.logic.specs.Parts.{negated_tag}
 use Rattle.wire.specs.Write.{two_bytes, write_formula}

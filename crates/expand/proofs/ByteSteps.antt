@@ -1,6 +1,6 @@
 -- Bytes written one after another, and the bytes of a held formula by its tag. Assumes nothing.
 use mathlib.Core.Path.{◌≡◌, refl, sym, ap, ◌∙◌}
-use mathlib.Core.Logic.{◌⊎◌, ⊎_elim}
+use mathlib.Core.Logic.{⊎_elim}
 use mathlib.Core.List.{List, [], ◌∷◌, ◌++◌, map, map-append}
 use Prim.Native.Nat.{ℕ, ◌+◌, ◌≤◌, ◌<◌}
 use native.Mathlib.Numerals.{add-one}
@@ -16,7 +16,7 @@ use Rattle.wire.proofs.FormulaBytes.{length_write}
 use Rattle.wire.proofs.ZoneBytes.{write_formulas_append, write_formulas_one, length_write_zone}
 use Rattle.formula.proofs.RewritingLaws.{sets_append}
 use Rattle.held.specs.SignsLaws.{node_make}
-use Rattle.held.specs.Words.{at, count, view, told, named, Row, unit, name, two, one, Wf}
+use Rattle.held.specs.Words.{at, count, view, told, named, Wf}
 use Rattle.held.specs.Answers.{Field}
 use Rattle.held.specs.OrderLaws.{le_or_lt}
 use Rattle.held.specs.WordsLaws.{held_node, row_low, weights}

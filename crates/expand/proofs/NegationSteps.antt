@@ -27,14 +27,12 @@ use Rattle.held.specs.Signs.{node}
 use Rattle.held.specs.SignsLaws.{node_make}
 use Rattle.held.specs.Words.{at, count, most, view, told, Row, two, one, Wf}
 use Rattle.held.specs.OrderLaws.{le_or_lt}
-use Rattle.held.specs.WordsLaws.{weights, number_once, tag_node}
+use Rattle.held.specs.WordsLaws.{weights, number_once}
 use Rattle.held.specs.Answers.{Field, Next, NumberOf}
 use Rattle.held.specs.declared.Found.{Found}
 use Rattle.held.specs.declared.Found.TheVariants as found
 use Rattle.held.proofs.RowSteps.{row_tall, row_wide, row_tall_one, row_wide_one}
 use Rattle.held.proofs.TurnSteps.{leaf_row}
-use Rattle.held.specs.contracts.Found.{the_type as found_type}
-use denote.Enum.Declared.{tag_of as variant}
 use Rattle.expand.specs.Negations.{Noted, Table, Above, Negated}
 use Rattle.expand.proofs.ByteSteps.{told_make, told_tag, told_left, told_right, tag_low, part_left, part_right}
 

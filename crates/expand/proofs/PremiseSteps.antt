@@ -4,7 +4,7 @@ use mathlib.Core.Logic.{◌⊎◌, inl, inr, ⊎_elim}
 use mathlib.Core.Bool.{Bool, true, false}
 use mathlib.Core.List.{List, [], ◌∷◌, ◌++◌, map}
 use mathlib.Core.Option.{Option, none, some}
-use Prim.Native.Nat.{ℕ, ◌+◌, ◌-◌, ◌≤◌, ◌<◌}
+use Prim.Native.Nat.{ℕ, ◌+◌, ◌≤◌, ◌<◌}
 use native.Mathlib.Omega.{arith}
 use borrow.Author.Count.{below_none, below_more}
 use borrow.Author.Tests.{eqb-true, ltb-true}
@@ -19,7 +19,7 @@ use Rattle.logic.specs.Sequent.{Sequent, ◌﹔◌}
 use Rattle.logic.specs.Split.{left_of, right_of}
 use Rattle.logic.specs.Tree.{Rule, Axiom, OneIntro, TopIntro, BottomIntro, TensorIntro, ParIntro, WithIntro, PlusIntroLeft, PlusIntroRight, OfCourseIntro, WhyNotIntro, Weakening, Contraction, Dereliction}
 use Rattle.wire.specs.Write.{write_rule}
-use Rattle.held.specs.Words.{at, count, told, Wf}
+use Rattle.held.specs.Words.{at, count, told}
 use Rattle.held.specs.OrderLaws.{le_or_lt}
 use Rattle.held.specs.Answers.{Field}
 use Rattle.zones.specs.declared.Zones.{Zones}

@@ -1,6 +1,5 @@
 -- The first decomposable formula of a sequent, and the sequent with it spelled out. Assumes nothing.
 use mathlib.Core.Path.{◌≡◌, refl, sym, ap, ◌∙◌}
-use mathlib.Core.Logic.{◌⊎◌, ⊎_elim}
 use mathlib.Core.Bool.{Bool, true, false}
 use mathlib.Core.List.{List, [], ◌∷◌, ◌++◌, map}
 use Prim.Native.Nat.{ℕ, zero, suc, ◌+◌, ◌-◌, ◌≤◌, ◌<◌}
@@ -19,7 +18,6 @@ use Rattle.logic.specs.Concludes.{spell_at}
 use Rattle.held.specs.Signs.{node}
 use Rattle.held.specs.SignsLaws.{node_make}
 use Rattle.held.specs.Words.{at, count, view, told, Wf}
-use Rattle.held.specs.OrderLaws.{le_or_lt}
 use Rattle.held.specs.WordsLaws.{held_length, number_once, row_later}
 use Rattle.held.specs.Answers.{Field, Next}
 use Rattle.zones.specs.declared.Zones.{Zones}

@@ -13,7 +13,7 @@ use Rattle.logic.specs.Sequent.{Sequent}
 use Rattle.logic.specs.Tree.{Rule, Tree, Trees, node, ∅, ◌▹◌, premise_count}
 use Rattle.wire.proofs.ZoneBytes.{length_write_zone}
 use Rattle.wire.specs.Write.{two_bytes, write_formulas, write_zone, write_node, write_nodes, message, write_tree}
-use Rattle.held.specs.Words.{count, view, told}
+use Rattle.held.specs.Words.{view, told}
 use Rattle.zones.specs.declared.Zones.{Zones}
 use Rattle.zones.specs.Zones.{meant}
 use Rattle.expand.specs.Short.{rule_of, ◌by◌, step, spelled, ◌and_then◌, expand_all, expand}

@@ -1,7 +1,7 @@
 -- Short trees expanded, by computing. Assumes nothing.
-use Rattle.std.specs.Prelude.{◌≡◌, refl, List, [], ◌∷◌, ℕ, eqb, get_or, length}
+use Rattle.std.specs.Prelude.{◌≡◌, refl, [], ◌∷◌}
 use Rattle.std.proofs.Math.Option.{none, some}
-use Rattle.logic.specs.Formula.{Formula, Atom, NegAtom, Tensor, Par, Lolli, With, Top, negate, spell}
+use Rattle.logic.specs.Formula.{Atom, NegAtom, Tensor, Par, Lolli, negate, spell}
 use Rattle.logic.specs.Parts.{tag_of, left_part, right_part}
 use Rattle.logic.specs.Sequent.{◌﹔◌}
 use Rattle.logic.specs.Split.{left_of, right_of}

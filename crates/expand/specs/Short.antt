@@ -1,7 +1,7 @@
 -- Short trees: a word a node, in preorder, and the tree that they stand for over a question. A word holds the rule's number, the principal formula's place in its zone (0 at Axiom and
 -- OneIntro) and the mask of a tensor. `expand` works a node's conclusion and premises out from the question downward, as search.rs makes them; whether a step is legal is strict mode's
 -- question, and not asked here. Assumes nothing: these are definitions.
-use Rattle.std.specs.Prelude.{◌≡◌, Bool, true, false, List, [], ◌∷◌, ◌++◌, ℕ, zero, suc, ◌+◌, ◌*◌, ◌/◌, ◌%◌, eqb, ltb, get_or, length, take, drop}
+use Rattle.std.specs.Prelude.{◌≡◌, Bool, true, false, List, [], ◌∷◌, ◌++◌, ℕ, zero, suc, ◌+◌, ◌*◌, ◌/◌, ◌%◌, eqb, ltb, get_or, length}
 use Rattle.std.proofs.Math.Option.{Option, none, some}
 use Rattle.logic.specs.Formula.{One}
 use Rattle.logic.specs.Parts.{tag_of, left_part, right_part}

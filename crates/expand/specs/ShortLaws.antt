@@ -1,5 +1,5 @@
 -- Laws of short trees: a word taken apart, the implication that is spelled out, the step at a place by each rule, and how `expand` goes on from node to node. Assumes nothing.
-use Rattle.std.specs.Prelude.{◌≡◌, refl, Bool, true, false, cond, ℕ, zero, suc, ◌+◌, ◌-◌, ◌≤◌, ◌<◌, eqb, ltb, get_or, length}
+use Rattle.std.specs.Prelude.{◌≡◌, refl, Bool, true, false, cond, ℕ, zero, suc, ◌+◌, ◌-◌, ◌≤◌, ◌<◌, get_or, length}
 use Rattle.std.proofs.Common.{sym, ap, ◌∙◌, add-zero, suc-add, arith, lt-ltb}
 use mathlib.Core.List.{List, [], ◌∷◌, ◌++◌, append-nil}
 use Rattle.std.proofs.Math.Option.{Option, none, some}
@@ -7,7 +7,7 @@ use Rattle.logic.specs.Formula.{Formula, One, Bottom, Tensor, Par, With, Plus, L
 use Rattle.logic.specs.Parts.{tag_of, left_part, right_part}
 use Rattle.logic.specs.Sequent.{Sequent, ◌﹔◌}
 use Rattle.logic.specs.Split.{left_of, right_of}
-use Rattle.logic.specs.Built.{decomposable, Passed, none_yet, and_passed}
+use Rattle.logic.specs.Built.{decomposable, Passed}
 use Rattle.logic.specs.Conclusion.{spell_first}
 use Rattle.logic.specs.Concludes.{spell_passed, spell_at}
 use Rattle.logic.specs.Tree.{
@@ -33,7 +33,7 @@ use Rattle.logic.specs.Tree.{
   ◌▹◌,
 }
 use Rattle.zones.specs.Zones.{remove, replace}
-use Rattle.expand.specs.Short.{word, rule_of, place_of, mask_of, spelled, Step, ◌by◌, if_so, steps, step, ◌and_then◌, expand_all, grown, expand, Expands, Takes}
+use Rattle.expand.specs.Short.{word, rule_of, place_of, mask_of, spelled, Step, ◌by◌, steps, step, ◌and_then◌, expand_all, grown, expand, Expands, Takes}
 
 -- a word taken apart
 module _ (rule place mask : ℕ) (r : rule < 32) (p : place < 32) where

@@ -1,8 +1,8 @@
 -- Laws of the calls on one formula: what is known where the whole slice was read, and the three ways in which a writer keeps its promise. Assumes nothing.
 use Rattle.std.proofs.Math.Path.{◌≡◌, refl, ap}
 use Rattle.std.proofs.Common.{sym, ◌∙◌}
-use Rattle.std.specs.Prelude.{Bool, true, false, ℕ, ◌+◌, ◌-◌, ◌≤◌, ◌<◌, leb, get_or, drop, take}
-use mathlib.Core.List.{List, [], ◌∷◌, ◌++◌, append-nil}
+use Rattle.std.specs.Prelude.{Bool, ℕ, ◌+◌, ◌-◌, ◌≤◌, ◌<◌, get_or}
+use mathlib.Core.List.{List, [], ◌∷◌, append-nil}
 use native.Mathlib.Omega.{arith}
 use borrow.Author.Tests.{le-leb, lt-leb}
 use Rattle.std.proofs.Math.ListN.{length}
@@ -16,7 +16,7 @@ use Rattle.wire.proofs.FormulaBytes.{length_write, write_read}
 use Rattle.formula.specs.Answers.{coded, reads}
 use Rattle.formula.specs.Calls.{written, left_in, Writes, positive}
 use Rattle.formula.specs.Reading.{form_of, positive_tag}
-use Rattle.formula.specs.Signs.{Stands, Shape, UnitAt, NamedAt, BinaryAt, UnaryAt}
+use Rattle.formula.specs.Signs.{Stands, Shape}
 use Rattle.formula.specs.SignsLaws.{all_at, shaped}
 use Rattle.formula.specs.declared.Form.{Form}
 use Rattle.formula.specs.declared.Form.TheVariants.{Unit, Named, Binary, Unary, Unknown}

@@ -1,8 +1,7 @@
 -- Laws of rewriting: each sign keeps its parts' places, and what the code's steps store is the rewritten formula. Assumes nothing.
-use Rattle.std.specs.Prelude.{◌≡◌, refl, List, [], ◌∷◌, ◌++◌, ℕ, zero, suc, ◌+◌, ◌/◌, ◌%◌, ◌≤◌, ◌<◌, length, get_or, set}
+use Rattle.std.specs.Prelude.{◌≡◌, refl, List, [], ◌∷◌, ◌++◌, ℕ, suc, ◌+◌, ◌/◌, ◌%◌, ◌≤◌, ◌<◌, length, get_or, set}
 use Rattle.std.proofs.Common.{sym, ap, subst, ◌∙◌, arith, add-one, ne_eqb, length-set}
 use Rattle.std.proofs.lemmas.List.Edits.{sets}
-use Rattle.std.proofs.Math.Seq.{length-sets}
 use Rattle.logic.specs.Formula as of
 use Rattle.logic.specs.Formula.{Formula, negate, desugar, desugar_negation, size}
 use Rattle.logic.proofs.FormulaLaws.{negate_size, desugar_size, desugar_negation_size}
@@ -11,7 +10,7 @@ use Rattle.wire.specs.Read.{Sign, unit, named, binary, unary, signs}
 use Rattle.wire.specs.Gives.{AllAt}
 use Rattle.wire.proofs.FormulaBytes.{length_write}
 use Rattle.formula.specs.Reading.{form_of}
-use Rattle.formula.specs.Signs.{At, Stands, UnitAt, NamedAt, BinaryAt, UnaryAt}
+use Rattle.formula.specs.Signs.{At, Stands}
 use Rattle.formula.specs.SignsLaws.{all_at, shaped, starts_inside, tag_below}
 use Rattle.formula.specs.Calls.{Writes}
 use Rattle.formula.proofs.CallsLaws.{Whole, whole_stands, writes_short, writes_bytes}

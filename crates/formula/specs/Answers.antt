@@ -1,5 +1,5 @@
 -- What the calls on one formula answer: the code's refusals beside document 01's, and what a reader's answer is. Assumes nothing.
-use Rattle.std.specs.Prelude.{List, ℕ, ◌-◌, length}
+use Rattle.std.specs.Prelude.{ℕ, ◌-◌, length}
 use Rattle.logic.specs.Answer as answer
 use Rattle.wire.specs.Read as wire
 use Rattle.formula.specs.declared.Refusal.{Refusal}

@@ -1,7 +1,6 @@
 -- What the calls on one formula promise, on any bytes: the answer, and every byte of the output buffer. Both are functions of what went in, so no second answer or buffer meets a promise. Assumes nothing.
-use Rattle.std.specs.Prelude.{◌≡◌, true, false, List, [], ◌++◌, ℕ, leb, length, drop}
-use Rattle.logic.specs.Formula.{Formula, is_positive, size}
-use Rattle.wire.specs.Write.{write_formula}
+use Rattle.std.specs.Prelude.{◌≡◌, true, false, List, ◌++◌, ℕ, leb, length, drop}
+use Rattle.logic.specs.Formula.{Formula, is_positive}
 use Rattle.wire.specs.Read as wire
 use Rattle.formula.specs.Answers.{coded}
 use Rattle.formula.specs.declared.Refusal.TheVariants.{OutputShort}

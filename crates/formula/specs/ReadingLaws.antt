@@ -2,12 +2,12 @@
 use Rattle.std.proofs.Math.Path.{◌≡◌, sym, ap}
 use Rattle.std.specs.Prelude.{refl, ℕ, zero, suc, ◌+◌, ◌-◌, ◌≤◌, ◌<◌, take, drop, get_or}
 use Rattle.std.proofs.Common.{◌∙◌, le_refl, add-one, lt-ltb, le-ltb, drop-drop}
-use mathlib.Core.List.{List, [], ◌∷◌, ◌++◌}
+use mathlib.Core.List.{List, [], ◌∷◌}
 use native.Mathlib.Omega.{arith}
 use Rattle.std.proofs.Math.ListN.{length, length-append}
 use Rattle.std.proofs.Math.Seq.{take-length, slice, slice_empty, slice-cons, length-slice, drop_at}
 use Rattle.logic.specs.Formula.{Formula, size}
-use Rattle.logic.specs.Answer.{Refusal, wrong_length, wrong_tag, too_high}
+use Rattle.logic.specs.Answer.{Refusal, wrong_tag, too_high}
 use Rattle.wire.specs.Write.{write_formula}
 use Rattle.wire.specs.Read.{Read, got, refused, Sign, unit, named, binary, unary, signs, entry, read_byte, read_two, read_parts, read_formula, highest_formula, at_end, read_one, ◌then◌}
 use Rattle.wire.specs.Fits.{Bytes, ReadBack}
@@ -18,7 +18,7 @@ use Rattle.formula.specs.Reading.{form_of_sign, form_in, form_of, above_of, look
 use Rattle.formula.specs.declared.Read as read
 use Rattle.formula.specs.declared.Read.TheVariants.{Next, Refused}
 use Rattle.formula.specs.declared.Refusal as refusal
-use Rattle.formula.specs.declared.Refusal.TheVariants.{WrongLength, WrongTag, TooHigh}
+use Rattle.formula.specs.declared.Refusal.TheVariants.{WrongLength, TooHigh}
 use Rattle.formula.specs.declared.Form.{Form}
 use Rattle.formula.specs.declared.Look as look
 use Rattle.formula.specs.declared.Look.TheVariants.{Done, One, Two}

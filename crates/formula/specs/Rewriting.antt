@@ -1,5 +1,5 @@
 -- What becomes of a formula's bytes: each tag is turned, each name stays, and every byte keeps its place. Assumes nothing.
-use Rattle.std.specs.Prelude.{◌≡◌, true, false, List, [], ◌∷◌, ◌++◌, ℕ, ◌+◌, ◌≤◌, eqb, length, get_or}
+use Rattle.std.specs.Prelude.{◌≡◌, true, false, List, [], ◌∷◌, ℕ, ◌+◌, ◌≤◌, eqb, length, get_or}
 use Rattle.std.proofs.lemmas.List.Edits.{sets}
 use Rattle.logic.specs.Formula.{Formula, negate, desugar, desugar_negation, size}
 use Rattle.wire.specs.Write.{write_formula}

@@ -1,6 +1,6 @@
 -- Laws of signs: each formula has a sign, a table's rule holds at each of its signs, and what stands at a place is known by the form of the tag there. Assumes nothing.
 use Rattle.std.specs.Prelude.{◌≡◌, refl, ℕ, zero, suc, ◌+◌, ◌-◌, ◌/◌, ◌%◌, ◌≤◌, ◌<◌, length, get_or, drop}
-use Rattle.std.proofs.Common.{sym, ap, ◌∙◌, arith, lt_of_not-le, add-one, length-append, length-drop, drop-cons, drop-drop, drop_at, get_or-drop}
+use Rattle.std.proofs.Common.{sym, ap, ◌∙◌, arith, lt_of_not-le, add-one, length-append, length-drop, drop-cons, drop-drop, drop_at}
 use Rattle.std.proofs.Math.Path.{subst}
 use mathlib.Core.List.{List, [], ◌∷◌, ◌++◌, append_assoc}
 use Rattle.logic.specs.Formula.{Formula, One, Bottom, Top, Zero, Atom, NegAtom, Tensor, Par, With, Plus, Lolli, OfCourse, WhyNot, size}
@@ -13,7 +13,6 @@ use Rattle.formula.specs.Reading.{form_of, form_in, form_of_sign}
 use Rattle.formula.specs.ReadingLaws.{unknown_tag}
 use Rattle.formula.specs.Signs.{At, Signed, a_unit, a_name, a_pair, a_part, Stands, UnitAt, NamedAt, BinaryAt, UnaryAt, Shape}
 use Rattle.formula.specs.declared.Form.{Form}
-use Rattle.formula.specs.declared.Form.TheVariants.{Unit, Named, Binary, Unary, Unknown}
 
 pub signed : (f : Formula) → Signed f
 unfolding write_formula

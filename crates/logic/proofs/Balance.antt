@@ -29,29 +29,7 @@ use Rattle.logic.specs.Places.{
   m_none,
   m_more,
 }
-use Rattle.logic.specs.Built.{
-  decomposable,
-  Passed,
-  none_yet,
-  and_passed,
-  Built,
-  by_par,
-  by_bottom,
-  by_top,
-  by_with,
-  by_why_not,
-  by_lolli,
-  by_axiom,
-  by_axiom⊥,
-  by_one,
-  by_tensor,
-  by_plus_left,
-  by_plus_right,
-  by_of_course,
-  by_dereliction,
-  by_contraction,
-  by_weakening,
-}
+use Rattle.logic.specs.Built.{Built, by_par, by_bottom, by_top, by_with, by_why_not, by_lolli, by_axiom, by_axiom⊥, by_one, by_tensor, by_plus_left, by_plus_right, by_of_course, by_dereliction, by_contraction, by_weakening}
 
 -- how many signs of a formula are not multiplicative: the formula is of the fragment where there is none
 unfoldable foreign : Formula → ℕ

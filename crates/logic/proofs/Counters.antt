@@ -1,5 +1,5 @@
 -- What the counters and the memory stay within under document 01's limits, whatever the search answers: the sums of a port need these. Assumes nothing.
-use Rattle.std.specs.Prelude.{◌≡◌, Bool, false, List, [], ◌∷◌, ◌++◌, ℕ, zero, suc, ◌+◌, ◌≤◌, ◌<◌, max, length}
+use Rattle.std.specs.Prelude.{Bool, [], ◌∷◌, ℕ, suc, ◌+◌, ◌≤◌, length}
 use Rattle.std.proofs.Common.{arith}
 use Rattle.std.proofs.Math.ListN.{length-append}
 use borrow.Author.Tests.{ltb-false}

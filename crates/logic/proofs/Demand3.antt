@@ -4,7 +4,7 @@ use Rattle.std.specs.Prelude.{◌≡◌, [], ℕ, suc, ◌≤◌}
 use Rattle.std.proofs.Common.{subst}
 use Rattle.logic.specs.Sequent.{Sequent, Question, to_one_sided}
 use Rattle.logic.specs.Tree.{Tree, depth, conclusion}
-use Rattle.logic.specs.Outcome.{Outcome, found, Memory}
+use Rattle.logic.specs.Outcome.{found, Memory}
 use Rattle.logic.specs.Search.{Settings, prove, ask}
 use Rattle.logic.specs.Built.{Built}
 use Rattle.logic.proofs.Found.{Of, prove_builds, ask_builds}

@@ -7,10 +7,10 @@ use Rattle.std.proofs.lemmas.Bool.{false≢true}
 use Rattle.std.proofs.Math.Bool.{and-eq-true_iff}
 use Rattle.std.proofs.Math.Nat.{suc_inj}
 use mathlib.Core.List.{List, [], ◌∷◌, ◌++◌, append-nil, nil≢cons}
-use Prim.Native.Nat.{ℕ, zero, suc, ◌+◌, ◌≤◌, ◌<◌, ◌^◌}
-use Rattle.logic.specs.Formula.{Formula, One, Bottom, Top, Zero, Atom, NegAtom, Tensor, Par, With, Plus, Lolli, OfCourse, WhyNot, is_positive, same, among}
+use Prim.Native.Nat.{ℕ, zero, suc, ◌+◌, ◌≤◌, ◌^◌}
+use Rattle.logic.specs.Formula.{Formula, One, Bottom, Top, Zero, Atom, NegAtom, Tensor, Par, With, Plus, Lolli, OfCourse, WhyNot, same, among}
 use Rattle.logic.proofs.FormulaLaws.{same_iff}
-use Rattle.logic.specs.Sequent.{Sequent, ◌﹔◌, Question, to_one_sided}
+use Rattle.logic.specs.Sequent.{Sequent, Question, to_one_sided}
 use Rattle.logic.proofs.ZoneLaws.{snoc}
 use Rattle.logic.specs.Tree.{Rule, Tree, node, ∅, ◌▹◌}
 use Rattle.logic.specs.Key.{Key, sequent_key, contains}

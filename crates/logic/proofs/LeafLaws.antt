@@ -10,7 +10,7 @@ use Rattle.logic.proofs.FormulaLaws.{same_iff, same_self}
 use Rattle.logic.specs.Parts.{is_literal}
 use Rattle.logic.specs.Zone.{total}
 use Rattle.logic.proofs.SameLaws.{same_of}
-use Rattle.logic.specs.Legal.{as_number, times, ◌≈◌}
+use Rattle.logic.specs.Legal.{as_number, ◌≈◌}
 use Rattle.logic.proofs.Bags.{counts_itself, same_length}
 use Rattle.logic.specs.Verify.{axiom_shaped, one_shaped}
 use Rattle.logic.specs.Principal.{Stands, Unspelled}

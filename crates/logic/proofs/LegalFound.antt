@@ -1,7 +1,7 @@
 -- Each step of a tree that the search's rules build is legal. Assumes nothing.
-use Rattle.std.specs.Prelude.{◌≡◌, refl, Bool, true, false, cond, List, [], ◌∷◌, ◌++◌, ℕ, ◌+◌}
-use Rattle.std.proofs.Common.{sym, ap, ◌∙◌, arith}
-use Rattle.logic.specs.Formula.{Formula, One, Bottom, Top, Atom, NegAtom, Tensor, OfCourse, WhyNot, same, spell}
+use Rattle.std.specs.Prelude.{◌≡◌, refl, Bool, true, false, cond, List, [], ◌∷◌, ◌++◌, ℕ}
+use Rattle.std.proofs.Common.{ap}
+use Rattle.logic.specs.Formula.{Formula, One, Bottom, Atom, NegAtom, Tensor, OfCourse, WhyNot, spell}
 use Rattle.logic.proofs.FormulaLaws.{spell_twice}
 use Rattle.logic.specs.Sequent.{Sequent}
 use Rattle.logic.specs.Tree.{Tree, conclusion, conclusions}
@@ -11,51 +11,8 @@ use Rattle.logic.specs.Split.{left_of, right_of}
 use Rattle.logic.specs.Conclusion.{spell_first}
 use Rattle.logic.specs.Concludes.{concludes}
 use Rattle.logic.proofs.SameLaws.{same_trans, same_of, same_sym, swap_ends, to_front, under}
-use Rattle.logic.specs.Legal.{
-  as_number,
-  times,
-  Same,
-  ◌≈◌,
-  ◌≋◌,
-  step_axiom,
-  step_one,
-  step_top,
-  step_bottom,
-  step_par,
-  step_with,
-  step_plus_left,
-  step_plus_right,
-  step_tensor,
-  step_of_course,
-  step_why_not,
-  step_weakening,
-  step_contraction,
-  step_dereliction,
-  Legal,
-}
-use Rattle.logic.specs.Built.{
-  decomposable,
-  Passed,
-  none_yet,
-  and_passed,
-  Built,
-  by_par,
-  by_bottom,
-  by_top,
-  by_with,
-  by_why_not,
-  by_lolli,
-  by_axiom,
-  by_axiom⊥,
-  by_one,
-  by_tensor,
-  by_plus_left,
-  by_plus_right,
-  by_of_course,
-  by_dereliction,
-  by_contraction,
-  by_weakening,
-}
+use Rattle.logic.specs.Legal.{Same, ◌≈◌, ◌≋◌, step_axiom, step_one, step_top, step_bottom, step_par, step_with, step_plus_left, step_plus_right, step_tensor, step_of_course, step_why_not, step_weakening, step_contraction, step_dereliction, Legal}
+use Rattle.logic.specs.Built.{decomposable, Built, by_par, by_bottom, by_top, by_with, by_why_not, by_lolli, by_axiom, by_axiom⊥, by_one, by_tensor, by_plus_left, by_plus_right, by_of_course, by_dereliction, by_contraction, by_weakening}
 
 module _ {g : Formula → Formula} where
   -- what stands beside the principal formula is shared out

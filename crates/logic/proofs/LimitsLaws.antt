@@ -1,15 +1,15 @@
 -- Where no limit is met, the limits make no difference: a search that is not refused gives the same answer, tree, counters, formulas and failures as the search without limits, which is
 -- the Rust's. Assumes nothing.
 use Rattle.std.specs.Prelude.{◌≡◌, refl, Bool, true, false, length}
-use Rattle.std.proofs.Common.{sym, ap, subst, ◌∙◌}
-use mathlib.Core.List.{List, [], ◌∷◌, ◌++◌}
-use Prim.Native.Nat.{ℕ, zero, suc, ◌^◌}
+use Rattle.std.proofs.Common.{ap, ◌∙◌}
+use mathlib.Core.List.{List, [], ◌∷◌}
+use Prim.Native.Nat.{ℕ, zero, suc}
 use Rattle.logic.specs.Formula.{Formula, One, Bottom, Top, Zero, Atom, NegAtom, Tensor, Par, With, Plus, Lolli, OfCourse, WhyNot}
-use Rattle.logic.specs.Sequent.{Sequent, Question, to_one_sided}
-use Rattle.logic.specs.Tree.{Rule, Tree, node, ∅, ◌▹◌}
+use Rattle.logic.specs.Sequent.{Sequent, Question}
+use Rattle.logic.specs.Tree.{Rule, Tree}
 use Rattle.logic.specs.Answer.{Refusal}
 use Rattle.logic.specs.Key.{Key, sequent_key, contains}
-use Rattle.logic.specs.Held.{enter, enter_question}
+use Rattle.logic.specs.Held.{enter}
 use Rattle.logic.specs.Limits.{Limit, no_limit, exceeds}
 use Rattle.logic.specs.Outcome.{
   Outcome,
@@ -31,30 +31,7 @@ use Rattle.logic.specs.Outcome.{
   made,
   Memory,
 }
-use Rattle.logic.specs.Search.{
-  Settings,
-  unlimited,
-  from_one,
-  from_two,
-  if_so,
-  tensor_masks,
-  prove_focused,
-  try_axiom,
-  each,
-  try_dereliction,
-  try_contraction,
-  try_weakening,
-  prove_sync,
-  async_from,
-  unless_empty,
-  prove_async,
-  entered,
-  remembered,
-  visit,
-  prove_with_depth,
-  prove,
-  ask,
-}
+use Rattle.logic.specs.Search.{Settings, unlimited, from_one, from_two, tensor_masks, prove_focused, try_axiom, each, try_dereliction, try_contraction, try_weakening, prove_sync, async_from, unless_empty, prove_async, entered, remembered, visit, prove_with_depth, prove, ask}
 
 -- where m is not refused, m' does the same
 pub record Agrees (m m' : Search) : Type 0 where

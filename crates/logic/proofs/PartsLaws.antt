@@ -1,7 +1,7 @@
 -- Laws of `Parts`: what each kind of tag makes of a name and two formulas; a formula is what its tag makes of its name and parts, so a test for a sign is a test of the tag. Assumes nothing.
 use Rattle.std.specs.Prelude.{◌≡◌, Bool, true, false, eqb, leb}
 use Rattle.std.proofs.Math.Path.{refl}
-use Rattle.std.proofs.Common.{sym, ap, ◌∙◌, arith, below_none, below_more, eqb-true, leb-true, leb-false}
+use Rattle.std.proofs.Common.{ap, ◌∙◌, arith, below_none, below_more, eqb-true, leb-true, leb-false}
 use Prim.Native.Nat.{ℕ, suc, ◌+◌, ◌≤◌, ◌<◌, max}
 use Rattle.std.proofs.lemmas.Bool.{eqb-false}
 use Rattle.logic.specs.Formula.{Formula, One, Bottom, Top, Zero, Atom, NegAtom, Tensor, Par, With, Plus, Lolli, OfCourse, WhyNot, same, negate, height, size}

@@ -4,14 +4,13 @@ use Rattle.std.specs.Prelude.{◌≡◌, true, false}
 use Rattle.std.proofs.Math.Path.{refl, sym, ap}
 use Rattle.std.proofs.Common.{◌∙◌, arith}
 use mathlib.Core.List.{List, [], ◌∷◌, ◌++◌}
-use Prim.Native.Nat.{ℕ, zero, suc, ◌+◌, ◌≤◌, ◌<◌}
+use Prim.Native.Nat.{ℕ, zero, suc, ◌≤◌, ◌<◌}
 use Rattle.logic.specs.Formula.{Formula, One, Bottom, Top, Zero, Atom, NegAtom, Tensor, Par, With, Plus, Lolli, OfCourse, WhyNot, negate}
-use Rattle.logic.specs.Sequent.{Sequent, ◌﹔◌}
-use Rattle.logic.specs.Zone.{total}
+use Rattle.logic.specs.Sequent.{Sequent}
 use Rattle.logic.proofs.ZoneLaws.{snoc, total_at}
 use Rattle.logic.specs.Key.{Key, sequent_key, contains}
 use Rattle.logic.specs.Limits.{no_limit, exceeds}
-use Rattle.logic.specs.Outcome.{Outcome, nothing, State, Search, answer, if◌then◌else◌, ◌or_else◌, visited, hit, with_failure, record_failure, made}
+use Rattle.logic.specs.Outcome.{nothing, State, Search, answer, if◌then◌else◌, ◌or_else◌, visited, hit, with_failure, record_failure, made}
 use Rattle.logic.specs.Search.{Settings, unlimited, async_from, unless_empty, prove_async, entered, remembered, lolli_count, lollis, visit, prove_with_depth}
 
 module _ (settings : Settings) (deeper again again' : Sequent → Search) (q : Sequent) (agree : (p : Sequent) → lollis p.linear < lollis q.linear → again p ≡ again' p) where

@@ -1,14 +1,14 @@
 -- The settled runs of document 01 that are marked *, as theorems about the definitions: one table, one statement. Assumes nothing.
-use Rattle.std.specs.Prelude.{◌≡◌, refl, true, false, List, [], ◌∷◌, ◌++◌, map, ℕ, length}
-use Rattle.logic.specs.Formula.{Formula, One, Bottom, Top, Zero, Atom, NegAtom, Tensor, Par, With, Plus, Lolli, OfCourse, WhyNot, negate, is_positive, same, among}
-use Rattle.logic.specs.Sequent.{Sequent, ◌﹔◌, Question, one_sided, to_one_sided}
-use Rattle.logic.specs.Tree.{Axiom, OneIntro, TensorIntro, ParIntro, TopIntro, Dereliction, Tree, Trees, node, ∅, ◌▹◌}
+use Rattle.std.specs.Prelude.{◌≡◌, refl, true, List, [], ◌∷◌, map, ℕ, length}
+use Rattle.logic.specs.Formula.{Formula, One, Top, Atom, NegAtom, Tensor, Par, Lolli, WhyNot, negate, is_positive, same, among}
+use Rattle.logic.specs.Sequent.{◌﹔◌, Question, one_sided, to_one_sided}
+use Rattle.logic.specs.Tree.{Axiom, OneIntro, TensorIntro, ParIntro, TopIntro, Dereliction, Tree, node, ∅, ◌▹◌}
 use Rattle.logic.specs.Split.{left_of, right_of}
 use Rattle.logic.specs.Zone.{total}
 use Rattle.logic.specs.Key.{sequent_key, without, same_bag, contains}
 use Rattle.logic.specs.Held.{enter, enter_all, enter_question}
 use Rattle.logic.specs.Limits.{exceeds}
-use Rattle.logic.specs.Outcome.{Outcome, found, nothing, refused, State, Search, answer, if◌then◌else◌, ◌or_else◌, ◌if_found◌, visited, hit, record_failure, made, Memory}
+use Rattle.logic.specs.Outcome.{Outcome, found, nothing, State, if◌then◌else◌, ◌or_else◌, ◌if_found◌, visited, hit, record_failure, made, Memory}
 use Rattle.logic.specs.Search.{
   as_stated,
   from_one,

@@ -1,5 +1,5 @@
 -- Laws of equal multisets (`Same`): an equivalence, that keeps to appends changed over and to a formula brought to the front. Assumes nothing.
-use Rattle.std.specs.Prelude.{◌≡◌, List, [], ◌∷◌, ◌++◌, ◌+◌}
+use Rattle.std.specs.Prelude.{◌≡◌, List, ◌∷◌, ◌++◌, ◌+◌}
 use Rattle.std.proofs.Common.{sym, ◌∙◌, arith}
 use Rattle.std.proofs.Math.Path.{ap}
 use Rattle.logic.specs.Formula.{Formula, same}

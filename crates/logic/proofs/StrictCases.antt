@@ -1,9 +1,9 @@
 -- Both modes of the verifier on the trees of docs/DECISIONS.md: one table, one statement. Assumes nothing.
-use Rattle.std.specs.Prelude.{◌≡◌, refl, List, [], ◌∷◌, ◌++◌, map}
-use Rattle.logic.specs.Formula.{Formula, One, Bottom, Top, Atom, NegAtom, Tensor, Par, Lolli, negate, same, among, spell}
+use Rattle.std.specs.Prelude.{◌≡◌, refl, List, [], ◌∷◌, map}
+use Rattle.logic.specs.Formula.{Formula, Bottom, Top, Atom, NegAtom, Tensor, Par, Lolli, negate, same, among, spell}
 use Rattle.logic.specs.Parts.{left_part, right_part, is_literal}
 use Rattle.logic.specs.Sequent.{◌﹔◌}
-use Rattle.logic.specs.Tree.{Axiom, Cut, OneIntro, BottomIntro, ParIntro, TopIntro, Blur, Tree, Trees, node, ∅, ◌▹◌, nodes, conclusions, premise_count}
+use Rattle.logic.specs.Tree.{Axiom, Cut, OneIntro, BottomIntro, ParIntro, TopIntro, Blur, Tree, node, ∅, ◌▹◌, nodes, conclusions, premise_count}
 use Rattle.logic.specs.Key.{without, same_bag}
 use Rattle.logic.specs.Verify.{invalid_rule, context_mismatch, Verdict, accepted, rejected, any, axiom_shaped, one_shaped, shape_fault, verify_from, verify}
 use Rattle.logic.specs.Strict.{linear_same, any_binary, legal_step, strict_fault, verify_strict}

@@ -1,5 +1,5 @@
 -- A tree that the search's rules build within n levels is at most n high, and concludes its question. Assumes nothing.
-use Rattle.std.specs.Prelude.{◌≡◌, refl, true, false, List, [], ◌∷◌, ◌++◌, ℕ, suc, ◌≤◌, max}
+use Rattle.std.specs.Prelude.{◌≡◌, refl, true, List, ◌∷◌, ◌++◌, ℕ, suc, ◌≤◌}
 use Rattle.std.proofs.Common.{sym, ◌∙◌, arith}
 use Rattle.logic.specs.Formula.{Formula, Par, Lolli, negate, spell}
 use Rattle.logic.specs.Sequent.{Sequent, ◌﹔◌}

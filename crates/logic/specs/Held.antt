@@ -1,6 +1,6 @@
 -- The formulas that a memory holds, in order of entry: each once, numbered as first met, parts before wholes, left before right; of a question those read before the negations made for
 -- its antecedents (document 01). Assumes nothing.
-use Rattle.std.specs.Prelude.{Bool, true, false, List, [], ◌∷◌, ◌++◌, map}
+use Rattle.std.specs.Prelude.{true, false, List, [], ◌∷◌, ◌++◌, map}
 use Rattle.logic.specs.Formula.{Formula, One, Bottom, Top, Zero, Atom, NegAtom, Tensor, Par, With, Plus, Lolli, OfCourse, WhyNot, among, negate}
 use Rattle.logic.specs.Sequent.{Question, one_sided, two_sided}
 

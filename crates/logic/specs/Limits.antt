@@ -1,5 +1,5 @@
 -- The limits that document 01 adds to the Rust's search, as a record: all off, the search is the Rust's; as stated, it is document 01's. Assumes nothing.
-use Rattle.std.specs.Prelude.{Bool, true, false, ℕ, ltb}
+use Rattle.std.specs.Prelude.{Bool, false, ℕ, ltb}
 
 pub data Limit : Type 0 where
   no_limit : Limit

@@ -1,31 +1,10 @@
 -- The search of search.rs as a definition. Each name is the Rust function's. `deeper` is `prove_with_depth(.., depth + 1)` and `again` is `prove_with_depth(.., depth)`; only `visit`
 -- recurs, and `Ring` shows that it satisfies the Rust's own equation.
 -- A loop over `i` in a zone is a walk over the zone in two parts, `before` (what was passed, in order) and what is left: `remove(i)` is `before ++ after`. Assumes nothing.
-use Rattle.std.specs.Prelude.{Bool, true, false, ◌&&◌, List, [], ◌∷◌, ◌++◌, ℕ, zero, suc, ◌^◌, eqb, length}
+use Rattle.std.specs.Prelude.{Bool, ◌&&◌, List, [], ◌∷◌, ◌++◌, ℕ, zero, suc, ◌^◌, eqb, length}
 use Rattle.logic.specs.Formula.{Formula, One, Bottom, Top, Zero, Atom, NegAtom, Tensor, Par, With, Plus, Lolli, OfCourse, WhyNot, among, negate, is_positive}
 use Rattle.logic.specs.Sequent.{Sequent, ◌﹔◌, count, Question, to_one_sided}
-use Rattle.logic.specs.Tree.{
-  Rule,
-  Axiom,
-  OneIntro,
-  BottomIntro,
-  TensorIntro,
-  ParIntro,
-  TopIntro,
-  WithIntro,
-  PlusIntroLeft,
-  PlusIntroRight,
-  OfCourseIntro,
-  WhyNotIntro,
-  Weakening,
-  Contraction,
-  Dereliction,
-  Tree,
-  Trees,
-  node,
-  ∅,
-  ◌▹◌,
-}
+use Rattle.logic.specs.Tree.{Rule, Axiom, OneIntro, BottomIntro, TensorIntro, ParIntro, TopIntro, WithIntro, PlusIntroLeft, PlusIntroRight, OfCourseIntro, WhyNotIntro, Weakening, Contraction, Dereliction, node, ∅, ◌▹◌}
 use Rattle.logic.specs.Answer.{too_many, held_full, budget_spent}
 use Rattle.logic.specs.Split.{left_of, right_of}
 use Rattle.logic.specs.Zone.{total}

@@ -1,5 +1,5 @@
 -- Sequents, as in sequent.rs: two zones. `focus` is left out: every sequent here has none. Document 01's questions of both kinds. Assumes nothing.
-use Rattle.std.specs.Prelude.{List, [], ◌∷◌, ◌++◌, map, ℕ, ◌+◌, length}
+use Rattle.std.specs.Prelude.{List, [], ◌++◌, map, ℕ, ◌+◌, length}
 use Rattle.logic.specs.Formula.{Formula, negate}
 
 pub record Sequent : Type 0 where

@@ -1,6 +1,6 @@
 -- Strict mode as a test: at each node the shape mode's tests, then 15 unless the step is legal. The principal formula is looked for at every place of its zone; at TensorIntro and Cut no
 -- split is looked for, since what the two premises hold besides A and B must be the rest. `StrictLaws` shows that the test agrees with document 01's legal steps. Assumes nothing.
-use Rattle.std.specs.Prelude.{Bool, true, false, ◌&&◌, List, [], ◌∷◌, ◌++◌, map}
+use Rattle.std.specs.Prelude.{Bool, false, ◌&&◌, List, [], ◌∷◌, ◌++◌, map}
 use Rattle.std.proofs.Math.Option.{Option, none, some}
 use Rattle.logic.specs.Formula.{Formula, Bottom, Top, Tensor, Par, With, Plus, OfCourse, WhyNot, negate, among, spell}
 use Rattle.logic.specs.Parts.{left_part, right_part, is_binary, is_unary}

@@ -1,6 +1,6 @@
 -- `verify_proof` of verify.rs: each node's own test first, in the Rust's order of tests, then its premises from the left. An error gives the rule, the node's number in preorder (the
 -- root is 0), the wrappers (`PremiseFailed`: steps below the root) and the fault. Strict mode runs the same walk with another test at each node. Assumes nothing.
-use Rattle.std.specs.Prelude.{Bool, true, false, ◌&&◌, List, [], ◌∷◌, ℕ, zero, suc, ◌+◌, eqb}
+use Rattle.std.specs.Prelude.{Bool, true, false, ◌&&◌, List, [], ◌∷◌, ℕ, suc, ◌+◌, eqb}
 use Rattle.std.proofs.Math.Option.{Option, none, some}
 use Rattle.logic.specs.Formula.{Formula, One, Bottom, Top, Tensor, Par, With, Plus, OfCourse, negate, same, among}
 use Rattle.logic.specs.Parts.{is_literal, is_binary, is_unary}

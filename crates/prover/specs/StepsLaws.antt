@@ -3,11 +3,11 @@ use Rattle.std.specs.Prelude.{◌≡◌, refl, Bool, ℕ, ◌≤◌, leb, length
 use Rattle.std.proofs.Common.{sym, ◌∙◌, arith, leb-true, le-leb}
 use Rattle.std.proofs.Math.Path.{ap, subst}
 use Rattle.std.proofs.Math.Bool.{true, false, and-eq-true_iff}
-use mathlib.Core.List.{List, [], ◌++◌}
+use mathlib.Core.List.{List, ◌++◌}
 use Rattle.std.proofs.Math.ListN.{drop}
 use Rattle.logic.specs.Formula.{Formula}
 use Rattle.logic.specs.Tree.{Tree, Trees, node, ∅, ◌▹◌}
-use Rattle.logic.specs.Outcome.{Outcome, found, refused, State, Memory}
+use Rattle.logic.specs.Outcome.{Outcome, found, State, Memory}
 use Rattle.wire.specs.Write.{write_node, write_tree}
 use Rattle.wire.specs.Fits.{NodesFew, NodesFew*}
 use Rattle.formula.specs.declared.Refusal as refusal

@@ -38,7 +38,7 @@ use Rattle.search.specs.declared.Outcome.TheVariants.{Nothing, Refused}
 use Rattle.search.specs.Walk.{settings, rules, async_at, async_rest, async_empty}
 use Rattle.search.specs.Plans.{sequent, First, FirstTwo, FirstOne, FirstLolli, NoneFirst}
 use Rattle.search.specs.Contract.{visiting, deeper, Ready, Agrees, Under, Both, Leaf, Visits, Decomposes, Syncs, Puts, PutsBoth}
-use Rattle.search.proofs.Steps.{Kept, goes_as, goes_then, rebase, of, done_nothing, done_refused, leaf_found}
+use Rattle.search.proofs.Steps.{goes_as, goes_then, rebase, of, done_nothing, done_refused, leaf_found}
 use Rattle.search.proofs.Turns.{goes_long, goes_refused, goes_made, goes_unmade}
 use Rattle.search.proofs.Leaves.{linear_length}
 use Rattle.search.specs.AskedLaws.{sequent_later, stands_later}

@@ -58,7 +58,6 @@ use Rattle.memory.specs.Meaning.{holds}
 use Rattle.memory.specs.SettledLaws.{image_once}
 use Rattle.short.specs.Short.{Short, short, Shorts, □, ◌▸◌}
 use Rattle.short.specs.Making.{Result, made, mismatch, refused}
-use Rattle.short.specs.Shortening.{expand, shorten}
 use Rattle.short.proofs.StepsLaws.{built_more}
 use Rattle.short.specs.Few.{Few, Few*}
 use Rattle.short.proofs.ExpandLaws.{expand_builds, expand_few}

@@ -10,7 +10,6 @@ use Rattle.std.proofs.Math.Seq.{drop-length}
 use Rattle.logic.specs.Formula.{Formula, One, same}
 use Rattle.logic.proofs.FormulaLaws.{same_symmetric, size_positive}
 use Rattle.logic.specs.Sequent.{Sequent}
-use Rattle.logic.specs.Tree.{node}
 use Rattle.logic.specs.Built.{decomposable}
 use Rattle.logic.specs.Conclusion.{spell_first, concluded}
 use Rattle.wire.specs.Write.{write_formula, write_formulas}

@@ -7,7 +7,6 @@ use Rattle.std.proofs.Math.Logic.{⊎_elim}
 use Rattle.std.proofs.Math.Bool.{false}
 use Rattle.std.proofs.lemmas.Bool.{false≢true, eqb-false, not-true}
 use mathlib.Core.List.{List, [], ◌∷◌}
-use Rattle.std.proofs.Math.Option.{none, some}
 use native.Mathlib.Omega.{arith}
 use Rattle.std.proofs.Math.ListN.{get_or, length, length-append, get_or-eq_default}
 use Rattle.logic.specs.Formula.{Formula, One, Bottom, Top, Zero, Atom, NegAtom, Tensor, Par, With, Plus, Lolli, OfCourse, WhyNot}
@@ -41,7 +40,6 @@ use Rattle.logic.specs.Tree.{
 use Rattle.tree.specs.Places.{rule_number}
 use Rattle.zones.specs.Zones.{remove, replace}
 use Rattle.held.specs.OrderLaws.{le_or_lt}
-use Rattle.expand.specs.Short.{word, ◌by◌, steps, step}
 use Rattle.expand.specs.Writing.{decomposes}
 use Rattle.short.specs.Steps.{all_passed, formula_at, is_first, is_sync, is_focus, may_take, premises_of}
 use Rattle.step.specs.Taking.{decomposed_tag}

@@ -41,7 +41,7 @@ use Rattle.logic.specs.Tree.{
 }
 use Rattle.logic.specs.Verify.{Fault, any, axiom_shaped, one_shaped, need, need_shape, need_premises, shape_fault}
 use Rattle.logic.specs.VerifyLaws.{any_head, any_tail, any_map}
-use Rattle.logic.specs.Strict.{spelled, linear_same, keeps_zone, any_binary, any_unary, legal_step}
+use Rattle.logic.specs.Strict.{linear_same, keeps_zone, any_binary, any_unary, legal_step}
 use Rattle.strict.specs.Steps.{bottom_step, par_step, with_step, plus_step, tensor_step, of_course_step, why_not_step, takes_out, weakening_step, contraction_step, dereliction_step, cut_step}
 use Rattle.strict.specs.Steps.{step_by, one_test, two_test, Keeps, StepAt, SomeStep, CutIs, OnePremise, TwoPremises, LegalStep}
 use Rattle.strict.specs.StepsLaws.{no_first, yes_first}

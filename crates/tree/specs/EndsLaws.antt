@@ -1,50 +1,16 @@
 -- Each reader leaves an end of its bytes: what it read, it read from the front. So formulas until the bytes end are one formula and then the formulas of what is left; and a tree that was
 -- read has no more levels than were allowed. Assumes nothing.
-use Rattle.std.specs.Prelude.{◌≡◌, refl, Bool, true, false, List, [], ◌∷◌, ◌++◌, leb, length, take, drop}
-use Rattle.std.proofs.Common.{sym, ap, ◌∙◌, append-nil, append_assoc, take-append-drop, length-append, length-take}
+use Rattle.std.specs.Prelude.{◌≡◌, refl, List, [], ◌∷◌, ◌++◌, leb, length, take}
+use Rattle.std.proofs.Common.{sym, ap, ◌∙◌, append_assoc, take-append-drop, length-append, length-take}
 use Prim.Native.Nat.{ℕ, zero, suc, ◌+◌, ◌≤◌, ◌<◌}
 use native.Mathlib.Omega.{arith}
 use Rattle.logic.specs.Formula.{Formula}
-use Rattle.logic.specs.Sequent.{Sequent}
-use Rattle.logic.specs.Tree.{Rule, Tree, Trees, node, ∅, ◌▹◌, depth, depths}
+use Rattle.logic.specs.Tree.{Tree, Trees, depth, depths}
 use Rattle.logic.specs.Answer.{Refusal, wrong_length, wrong_tag, wrong_number, too_many}
-use Rattle.wire.specs.Read.{
-  Read,
-  got,
-  refused,
-  ◌then◌,
-  unless,
-  entry,
-  read_byte,
-  read_two,
-  Sign,
-  unit,
-  named,
-  binary,
-  unary,
-  signs,
-  read_parts,
-  read_formula,
-  highest_formula,
-  read_formulas,
-  read_all,
-  read_bytes,
-  zone_bytes,
-  RuleForm,
-  bare,
-  with_formula,
-  with_number,
-  rule_forms,
-  read_argument,
-  read_zone,
-  read_sequent,
-  most_formulas,
-  read_premises,
-  read_node,
-}
+use Rattle.wire.specs.Read.{Read, got, refused, ◌then◌, read_byte, read_two, Sign, unit, named, binary, unary, signs, read_parts, read_formula, highest_formula, read_formulas, read_all, read_bytes, zone_bytes, RuleForm, bare, with_formula, with_number, rule_forms, read_argument, read_zone, read_sequent, most_formulas, read_premises, read_node}
 use Rattle.wire.specs.Gives.{Gives, AllAt}
 use Rattle.wire.proofs.GivesLaws.{gives_got, gives_refused, gives_then, gives_map, gives_unless, gives_entry, when_got}
-use Rattle.tree.specs.Head.{Head, read_rule, read_head, node_of}
+use Rattle.tree.specs.Head.{read_rule, read_head}
 use Rattle.tree.specs.HeadLaws.{node_by_head}
 
 -- `rest` is an end of bs

@@ -1,9 +1,9 @@
 -- A node's own bytes, before its premises: rule and argument, zones, premise count. `HeadLaws` shows that a node is these and then its premises. Assumes nothing.
-use Rattle.std.specs.Prelude.{List, [], ◌∷◌, ℕ}
+use Rattle.std.specs.Prelude.{List, ℕ}
 use Rattle.logic.specs.Sequent.{Sequent}
 use Rattle.logic.specs.Tree.{Rule, Tree, Trees, node}
 use Rattle.logic.specs.Answer.{wrong_number}
-use Rattle.wire.specs.Read.{Read, got, ◌then◌, entry, read_byte, rule_forms, read_argument, read_sequent, read_premises}
+use Rattle.wire.specs.Read.{Read, got, ◌then◌, entry, read_byte, rule_forms, read_argument, read_sequent}
 
 pub record Head : Type 0 where
   pub rule : Rule

@@ -1,10 +1,8 @@
 -- Laws of `Head`: a node is its own bytes and then its premises. Assumes nothing.
 use Rattle.std.specs.Prelude.{◌≡◌, refl, List, [], ◌∷◌, ℕ, zero, suc}
-use Rattle.std.proofs.Common.{ap, ◌∙◌}
-use Rattle.logic.specs.Tree.{Rule, Tree}
-use Rattle.logic.specs.Answer.{Refusal, wrong_number}
-use Rattle.wire.specs.Read.{Read, got, refused, ◌then◌, entry, read_byte, RuleForm, rule_forms, read_argument, read_sequent, read_premises, read_node}
-use Rattle.tree.specs.Head.{Head, read_rule, read_head, node_of}
+use Rattle.logic.specs.Answer.{Refusal}
+use Rattle.wire.specs.Read.{Read, got, refused, ◌then◌, entry, read_premises, read_node}
+use Rattle.tree.specs.Head.{read_rule, read_head, node_of}
 
 -- one reader after another, joined either way
 pub then_assoc : {A B C : Type 0} (m : Read A) (k : A → List ℕ → Read B) (l : B → List ℕ → Read C) → ((m then k) then l) ≡ (m then λ a bs. k a bs then l)

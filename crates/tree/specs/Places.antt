@@ -1,5 +1,5 @@
 -- Where what was written stands in a message: bytes, formulas, zones, nodes. After a message was read, these say what a place holds. Assumes nothing.
-use Rattle.std.specs.Prelude.{◌≡◌, List, [], ◌++◌, ℕ, ◌+◌, ◌≤◌, ◌<◌, length}
+use Rattle.std.specs.Prelude.{◌≡◌, List, [], ℕ, ◌+◌, ◌≤◌, ◌<◌, length}
 use Rattle.logic.specs.Formula.{Formula, size}
 use Rattle.logic.specs.Sequent.{Sequent}
 use Rattle.logic.specs.Tree.{

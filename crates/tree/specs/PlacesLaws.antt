@@ -1,9 +1,9 @@
 -- Laws of `Places`: what the code's places hold where something written stands. Assumes nothing.
-use Rattle.std.specs.Prelude.{◌≡◌, refl, ◌⊎◌, drop}
-use Rattle.std.proofs.Common.{sym, ◌∙◌, inl, inr, ⊎_elim}
+use Rattle.std.specs.Prelude.{◌≡◌, refl, ◌⊎◌}
+use Rattle.std.proofs.Common.{sym, ◌∙◌, ⊎_elim}
 use Rattle.std.proofs.Math.Path.{ap, subst}
-use mathlib.Core.List.{List, [], ◌∷◌, ◌++◌, append_assoc, append-nil}
-use Prim.Native.Nat.{ℕ, zero, suc, ◌+◌, ◌-◌, ◌*◌, ◌/◌, ◌%◌, ◌≤◌, ◌<◌, min}
+use mathlib.Core.List.{List, ◌∷◌, ◌++◌, append_assoc, append-nil}
+use Prim.Native.Nat.{ℕ, ◌+◌, ◌-◌, ◌*◌, ◌/◌, ◌%◌, ◌≤◌, ◌<◌, min}
 use native.Mathlib.Omega.{arith}
 use Rattle.std.proofs.Math.ListN.{length, get_or, length-append}
 use Rattle.std.proofs.Math.Seq.{slice, length-slice}
@@ -38,8 +38,8 @@ use Rattle.logic.specs.Tree.{
   premise_count,
 }
 use Rattle.wire.specs.Write.{two_bytes, write_formula, write_formulas, write_zone, write_rule, write_node, write_nodes}
-use Rattle.wire.specs.Read.{got, read_formula, highest_formula}
-use Rattle.wire.specs.Fits.{Bytes, FormulaFits, FormulasFit, ZoneFits, RuleFits, NodeFits, NodesFit, NodesFit*}
+use Rattle.wire.specs.Read.{read_formula, highest_formula}
+use Rattle.wire.specs.Fits.{Bytes, FormulaFits, RuleFits, NodeFits, NodesFit, NodesFit*}
 use Rattle.wire.proofs.FormulaBytes.{length_write, read_write}
 use Rattle.formula.specs.Answers.{reads}
 use Rattle.formula.specs.ReadingLaws.{reached}
@@ -48,7 +48,7 @@ use Rattle.formula.specs.declared.Read as code
 use Rattle.formula.specs.declared.Read.TheVariants as read
 use Rattle.tree.specs.Stands.{Stands}
 use Rattle.tree.specs.StandsLaws.{stands_left, stands_right, stands_head, stands_tail, stands_inside, stands_join, stands_slice}
-use Rattle.tree.specs.Places.{FormulaAt, Holds, Within, follow, rule_number, argument_bytes, Passed, ZoneFound, ArgumentPassed, NodeWithin, NodeIs, NodeFound, TreePassed}
+use Rattle.tree.specs.Places.{FormulaAt, follow, rule_number, argument_bytes, Passed, ZoneFound, ArgumentPassed, NodeIs, NodeFound, TreePassed}
 use Rattle.tree.specs.declared.Span.{Span}
 use Rattle.tree.specs.declared.Node.{Node}
 

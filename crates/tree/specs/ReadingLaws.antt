@@ -1,15 +1,15 @@
 -- What the readers' answers say, and what each step of the code adds: laws of `Answers` over a message s. Assumes nothing.
 use Rattle.std.proofs.Math.Path.{◌≡◌, refl, sym, ap}
-use Rattle.std.proofs.Common.{◌∙◌, subst, le_refl, add-one, length-append, drop-cons}
-use Rattle.std.specs.Prelude.{Bool, leb}
+use Rattle.std.proofs.Common.{◌∙◌, add-one, length-append, drop-cons}
+use Rattle.std.specs.Prelude.{Bool}
 use Rattle.std.proofs.Math.Bool.{true, false}
-use mathlib.Core.List.{List, [], ◌∷◌, ◌++◌}
+use mathlib.Core.List.{List, [], ◌∷◌}
 use Prim.Native.Nat.{ℕ, zero, suc, ◌+◌, ◌-◌, ◌*◌, ◌≤◌, ◌<◌, max}
 use native.Mathlib.Omega.{arith}
 use borrow.Author.Tests.{le-leb, lt-leb, eq-eqb, ne_eqb, eqb-true, eqb-false}
 use Rattle.std.proofs.Math.Dec.{eqb}
 use Rattle.std.proofs.Math.ListN.{length, get_or, take, drop, length-drop}
-use Rattle.std.proofs.Math.Seq.{slice, slice_empty, slice-cons, length-slice, drop-drop, drop-append_seam, drop-length, take-length}
+use Rattle.std.proofs.Math.Seq.{slice, slice_empty, slice-cons, drop-drop, drop-append_seam, drop-length, take-length}
 use Rattle.logic.specs.Formula.{Formula}
 use Rattle.logic.proofs.FormulaLaws.{size_positive}
 use Rattle.logic.specs.Tree.{

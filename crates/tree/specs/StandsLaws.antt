@@ -1,6 +1,6 @@
 -- Laws of `Stands`: the parts of what stands at a place, and a reader's slice from there. Assumes nothing.
-use Rattle.std.specs.Prelude.{◌≡◌, refl, List, [], ◌∷◌, ◌++◌, ℕ, suc, ◌+◌, ◌-◌, ◌≤◌, ◌<◌, length, get_or, take, drop}
-use Rattle.std.proofs.Common.{sym, ap, ◌∙◌, append_assoc, append-nil, arith, zero-add, add-one, length-append, take-append-drop, length-take-le, drop-drop, get_or-drop}
+use Rattle.std.specs.Prelude.{◌≡◌, List, [], ◌∷◌, ◌++◌, ℕ, ◌+◌, ◌-◌, ◌≤◌, ◌<◌, length, get_or, take, drop}
+use Rattle.std.proofs.Common.{sym, ap, ◌∙◌, append_assoc, append-nil, arith, length-append, take-append-drop, length-take-le, drop-drop, get_or-drop}
 use Rattle.std.proofs.Math.Seq.{slice, length-slice, drop-append_seam, take-append_seam, take-append-add, drop-length}
 use Rattle.std.proofs.lemmas.List.{drop-append-le}
 use Rattle.tree.specs.Stands.{Stands}

@@ -1,7 +1,7 @@
 -- Laws of `Shapes`: shape mode's test by the rule's number, and what the tests on bytes find. Assumes nothing.
 use Rattle.std.specs.Prelude.{◌≡◌, Bool, ◌⊎◌, ℕ, suc, ◌+◌, ◌-◌, ◌*◌, ◌≤◌, ◌<◌, length}
 use Rattle.std.proofs.Math.Path.{refl, sym, ap}
-use Rattle.std.proofs.Common.{ap₂, ◌∙◌, subst, ⊎_elim, zero-le}
+use Rattle.std.proofs.Common.{ap₂, ◌∙◌, subst, zero-le}
 use Rattle.std.proofs.Math.Bool.{true, false}
 use Rattle.std.proofs.lemmas.Bool.{false≢true}
 use mathlib.Core.List.{List, [], ◌∷◌}

@@ -1,16 +1,16 @@
 -- A tree that the search finds fits the byte form where its question does, its sequents are few and its body is short: the formulas of its nodes are parts of the question's, or parts negated.
 -- Assumes nothing.
-use Rattle.std.specs.Prelude.{◌≡◌, refl, Bool, true, false, not, List, [], ◌∷◌, ◌++◌, ℕ, suc, ◌+◌, ◌/◌, ◌%◌, ◌≤◌, ◌<◌, max, eqb, length}
+use Rattle.std.specs.Prelude.{◌≡◌, refl, Bool, true, false, not, List, [], ◌∷◌, ◌++◌, ℕ, suc, ◌/◌, ◌%◌, ◌≤◌, ◌<◌, max, eqb, length}
 use Rattle.std.proofs.Common.{subst, arith, length-append}
 use Rattle.logic.specs.Formula.{Formula, One, Bottom, Top, Zero, Atom, NegAtom, Tensor, Par, With, Plus, Lolli, OfCourse, WhyNot, negate, height}
 use Rattle.logic.proofs.FormulaLaws.{negate_height}
-use Rattle.logic.specs.Sequent.{Sequent, ◌﹔◌, count}
+use Rattle.logic.specs.Sequent.{Sequent}
 use Rattle.logic.specs.Split.{keep, left_of, right_of}
-use Rattle.logic.specs.Tree.{Rule, Tree, Trees, node, ∅, ◌▹◌, premise_count}
+use Rattle.logic.specs.Tree.{Tree, Trees, node, ∅, ◌▹◌, premise_count}
 use Rattle.logic.specs.Built.{Built, by_par, by_bottom, by_top, by_with, by_why_not, by_lolli, by_axiom, by_axiom⊥, by_one, by_tensor, by_plus_left, by_plus_right, by_of_course, by_dereliction, by_contraction, by_weakening}
 use Rattle.logic.specs.Concludes.{depth_bound}
 use Rattle.wire.proofs.ZoneBytes.{length_write_zone}
-use Rattle.wire.specs.Write.{write_formulas, write_zone, write_rule, write_node, write_nodes}
+use Rattle.wire.specs.Write.{write_zone, write_rule, write_node, write_nodes}
 use Rattle.wire.specs.Read.{highest_formula, highest_tree}
 use Rattle.wire.specs.Fits.{NamesFit, FormulaFits, FormulasFit, RuleFits, NodesFit, NodesFit*, NodesFew, NodesFew*, TreeFits}
 

@@ -1,6 +1,6 @@
 -- Document 01's byte forms, read: each reader answers a value and the bytes left over, or the refusal that comes first in document 01's order. A formula's bytes end where its zone ends.
 -- Assumes nothing.
-use Rattle.std.specs.Prelude.{Bool, true, false, List, [], ◌∷◌, ◌++◌, ℕ, zero, suc, ◌+◌, ◌*◌, eqb, leb, ltb, length, take, drop}
+use Rattle.std.specs.Prelude.{Bool, true, false, List, [], ◌∷◌, ℕ, zero, suc, ◌+◌, ◌*◌, eqb, leb, length, take, drop}
 use Rattle.logic.specs.Formula.{Formula, One, Bottom, Top, Zero, Atom, NegAtom, Tensor, Par, With, Plus, Lolli, OfCourse, WhyNot}
 use Rattle.logic.specs.Sequent.{Sequent, ◌﹔◌, Question, one_sided, two_sided}
 use Rattle.logic.specs.Tree.{

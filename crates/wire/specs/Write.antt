@@ -1,7 +1,7 @@
 -- Document 01's byte forms, written: formulas, zones, questions and trees. A byte is a number below 256; numbers of two bytes are big-endian. Assumes nothing.
 use Rattle.std.specs.Prelude.{List, [], ◌∷◌, ◌++◌, ℕ, ◌/◌, ◌%◌, length}
 use Rattle.logic.specs.Formula.{Formula, One, Bottom, Top, Zero, Atom, NegAtom, Tensor, Par, With, Plus, Lolli, OfCourse, WhyNot}
-use Rattle.logic.specs.Sequent.{Sequent, Question, one_sided, two_sided}
+use Rattle.logic.specs.Sequent.{Question, one_sided, two_sided}
 use Rattle.logic.specs.Tree.{
   Rule,
   Axiom,

@@ -1,7 +1,4 @@
-use Rattle.bags.specs.WalksLaws.{agreeing_start, agreeing_next, agreeing_stops, agreeing_end}
-use mathlib.Core.Path.{refl}
 use Prim.Native.Nat.{◌-◌}
-use borrow.Author.Rules.{rules}
 use Rattle.bags.specs.Walks.{Agreeing}
 use Rattle.bags.proofs.agree_on.Given as goal
 

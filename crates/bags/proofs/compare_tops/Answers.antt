@@ -1,6 +1,5 @@
 use Rattle.bags.specs.ComparedLaws.{tops_other, tops_unit, tops_name, tops_two, tops_one}
 use native.Mathlib.Omega.{arith}
-use borrow.Author.Rules.{rules}
 use Rattle.bags.proofs.compare_tops.Goals as goal
 
 pub returns-then-tag-sign_at : goal.returns-then-tag-sign_at

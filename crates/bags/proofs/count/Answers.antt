@@ -1,8 +1,5 @@
 use Rattle.bags.specs.WalksLaws.{counting_start, counting_next, counting_end}
 use mathlib.Core.Path.{refl}
-use Prim.Native.Nat.{◌-◌}
-use borrow.Author.Rules.{rules}
-use Rattle.bags.specs.Walks.{Counting}
 use Rattle.bags.proofs.count.Goals as goal
 
 pub loop-p-init : goal.loop-p-init

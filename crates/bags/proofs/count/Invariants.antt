@@ -1,7 +1,4 @@
-use Rattle.bags.specs.WalksLaws.{counting_start, counting_next, counting_end}
-use mathlib.Core.Path.{refl}
 use Prim.Native.Nat.{◌-◌}
-use borrow.Author.Rules.{rules}
 use Rattle.bags.specs.Walks.{Counting}
 use Rattle.bags.proofs.count.Given as goal
 

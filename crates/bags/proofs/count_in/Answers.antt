@@ -1,6 +1,5 @@
 use Rattle.bags.specs.CountingLaws.{long_in}
 use mathlib.Core.Path.{refl}
-use borrow.Author.Rules.{rules}
 use Rattle.bags.proofs.count_in.Goals as goal
 
 pub returns : goal.returns

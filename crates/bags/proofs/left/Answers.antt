@@ -1,5 +1,4 @@
 use Rattle.bags.specs.ComparedLaws.{left_is}
-use borrow.Author.Rules.{rules}
 use Rattle.bags.proofs.left.Goals as goal
 
 pub returns : goal.returns

@@ -1,6 +1,5 @@
 use borrow.Author.Tests.{eq-eqb, ne_eqb}
 use Rattle.bags.specs.Reading.{left_how}
-use borrow.Author.Rules.{rules}
 use Rattle.bags.proofs.left_how.Goals as goal
 
 pub returns-in-Plain : goal.returns-in-Plain

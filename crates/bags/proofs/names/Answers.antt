@@ -1,5 +1,4 @@
 use Rattle.bags.specs.ComparedLaws.{names_other, names_alike}
-use borrow.Author.Rules.{rules}
 use Rattle.bags.proofs.names.Goals as goal
 
 pub returns-then-two_at : goal.returns-then-two_at

@@ -1,5 +1,4 @@
 use mathlib.Core.Path.{refl}
-use borrow.Author.Rules.{rules}
 use Rattle.logic.specs.Parts.{negated_tag}
 use Rattle.bags.specs.ReadingLaws.{negated_beyond}
 use Rattle.bags.proofs.negated.Goals as goal

@@ -1,5 +1,4 @@
 use Rattle.bags.specs.ComparedLaws.{once_same, once_other}
-use borrow.Author.Rules.{rules}
 use Rattle.bags.proofs.once.Goals as goal
 
 pub returns-in_default : goal.returns-in_default

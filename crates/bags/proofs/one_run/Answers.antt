@@ -1,6 +1,5 @@
 use mathlib.Core.Path.{refl}
 use Rattle.bags.specs.RunsLaws.{one_run}
-use borrow.Author.Rules.{rules}
 use Rattle.bags.proofs.one_run.Goals as goal
 
 pub returns : goal.returns

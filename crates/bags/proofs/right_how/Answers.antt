@@ -1,5 +1,4 @@
 use Rattle.bags.specs.Reading.{right_how}
-use borrow.Author.Rules.{rules}
 use Rattle.bags.proofs.right_how.Goals as goal
 
 pub returns-in-Plain : goal.returns-in-Plain

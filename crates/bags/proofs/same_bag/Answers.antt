@@ -1,5 +1,4 @@
 use Rattle.bags.specs.CountingLaws.{other_lengths, other_first, other_second, by_third}
-use borrow.Author.Rules.{rules}
 use Rattle.bags.proofs.same_bag.Goals as goal
 
 pub returns-then-count_in : goal.returns-then-count_in

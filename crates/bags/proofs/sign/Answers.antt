@@ -1,6 +1,5 @@
 use borrow.Author.Tests.{eq-eqb, ne_eqb}
 use Rattle.bags.specs.Reading.{sign_of}
-use borrow.Author.Rules.{rules}
 use Rattle.bags.proofs.sign.Goals as goal
 
 pub returns-in-Plain : goal.returns-in-Plain

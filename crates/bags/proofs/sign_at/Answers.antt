@@ -1,5 +1,4 @@
 use Rattle.bags.specs.ComparedLaws.{sign_is}
-use borrow.Author.Rules.{rules}
 use Rattle.bags.proofs.sign_at.Goals as goal
 
 pub returns : goal.returns

@@ -1,7 +1,4 @@
-use Rattle.bags.specs.WalksLaws.{timing_start, timing_next, timing_end}
-use mathlib.Core.Path.{refl}
 use Prim.Native.Nat.{◌-◌}
-use borrow.Author.Rules.{rules}
 use Rattle.bags.specs.Walks.{Timing}
 use Rattle.bags.proofs.times.Given as goal
 

@@ -1,6 +1,5 @@
 use Rattle.bags.specs.CountingLaws.{counts_in}
 use mathlib.Core.Path.{refl}
-use borrow.Author.Rules.{rules}
 use Rattle.bags.proofs.times_in.Goals as goal
 
 pub returns : goal.returns

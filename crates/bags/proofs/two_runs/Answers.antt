@@ -1,6 +1,5 @@
 use mathlib.Core.Path.{refl}
 use Rattle.bags.specs.RunsLaws.{two_runs}
-use borrow.Author.Rules.{rules}
 use Rattle.bags.proofs.two_runs.Goals as goal
 
 pub returns : goal.returns

@@ -1,5 +1,4 @@
 use mathlib.Core.Path.{sym, ◌∙◌}
-use borrow.Author.Rules.{rules}
 use Rattle.formula.proofs.CallsLaws.{whole, whole_stands, judged, judged_refused}
 use Rattle.formula.specs.SignsLaws.{starts_inside, tag_below}
 use Rattle.formula.proofs.is_positive.Goals as goal

@@ -1,7 +1,5 @@
-use borrow.Author.Rules.{rules}
-use Rattle.formula.specs.Reading.{form_of, look_of}
+use Rattle.formula.specs.Reading.{look_of}
 use Rattle.formula.specs.ReadingLaws.{looked_none, looked_above, looked_at, looked_name, looked_short}
-use Rattle.formula.specs.declared.Form.{Form}
 use Rattle.formula.proofs.look_at.Goals as goal
 
 pub returns-then-at-end : goal.returns-then-at-end

@@ -1,4 +1,3 @@
-use borrow.Author.Rules.{rules}
 use Rattle.formula.specs.ReadingLaws.{whole_refused, whole_read, whole_left}
 use Rattle.formula.proofs.read_one.Goals as goal
 

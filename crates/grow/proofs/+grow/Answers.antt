@@ -1,10 +1,7 @@
 use Rattle.std.proofs.lemmas.Bool.{not_from_true, not_from_false}
-use mathlib.Core.Path.{refl, ◌∙◌}
+use mathlib.Core.Path.{◌∙◌}
 use native.Mathlib.Omega.{arith}
-use lib.ListN.{length}
 use Rattle.grow.specs.GrowingLaws.{grows_full, grows_mismatch, grows_crowded, putting, word_known, grows_leaf, first_step, first_falls, first_growing, grows_one, grows_first, second_step, second_falls, second_growing, grows_two}
-use Prim.Native.Nat.{ℕ, ◌-◌, ◌<◌}
-use borrow.Author.Rules.{rules}
 use Rattle.grow.proofs.+grow.Goals as goal
 
 pub spell_first-spelt-requires : goal.spell_first-spelt-requires

@@ -1,5 +1,4 @@
 use mathlib.Core.Path.{refl}
-use borrow.Author.Rules.{rules}
 use Rattle.grow.specs.GrowingLaws.{mask_tensor, mask_none}
 use Rattle.grow.proofs.mask_at.Goals as goal
 

@@ -1,4 +1,3 @@
-use borrow.Author.Rules.{rules}
 use Rattle.grow.specs.GrowingLaws.{node_read}
 use Rattle.grow.proofs.node_at.Goals as goal
 

@@ -1,5 +1,4 @@
 use native.Mathlib.Omega.{arith}
-use borrow.Author.Rules.{rules}
 use Rattle.grow.specs.GrowingLaws.{head_too_long, head_no_room, head_room, head_put}
 use Rattle.grow.proofs.put_head.Goals as goal
 

@@ -1,6 +1,4 @@
-use borrow.Author.Tests.{not-true, not-false}
 use Rattle.least.specs.FindingLaws.{fits_untaken, fits_crowded, fits_taken, fits_follows}
-use borrow.Author.Rules.{rules}
 use Rattle.least.proofs.fits_at.Goals as goal
 
 pub returns-then-not-may_take : goal.returns-then-not-may_take

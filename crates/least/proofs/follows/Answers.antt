@@ -1,6 +1,4 @@
-use borrow.Author.Tests.{not-true, not-false}
 use Rattle.least.specs.FindingLaws.{taken_word, word_rule, word_first, word_second, follows_none, follows_apart, follows_one, follows_two}
-use borrow.Author.Rules.{rules}
 use Rattle.least.proofs.follows.Goals as goal
 
 pub node_word-w-requires : goal.node_word-w-requires

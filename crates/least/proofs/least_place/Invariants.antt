@@ -1,7 +1,5 @@
 use Prim.Native.Nat.{◌≤◌, ◌-◌}
-use native.Mathlib.Omega.{arith}
 use Rattle.least.specs.Finding.{Tried}
-use Rattle.least.specs.FindingLaws.{tried_start, tried_more, place_found, place_nowhere}
 use Rattle.least.proofs.least_place.Given as goal
 
 abbrev pub invariant-loop-i : goal.invariant-loop-i

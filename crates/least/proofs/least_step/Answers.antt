@@ -1,6 +1,5 @@
 use native.Mathlib.Omega.{arith}
 use Rattle.least.specs.FindingLaws.{low_rule, step_high, step_other, step_tensor, step_placed}
-use borrow.Author.Rules.{rules}
 use Rattle.least.proofs.least_step.Goals as goal
 
 pub returns-then-node-gt-LAST_RULE : goal.returns-then-node-gt-LAST_RULE

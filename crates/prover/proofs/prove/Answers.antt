@@ -1,8 +1,6 @@
-use borrow.Author.Tests.{not-true, not-false}
 use Rattle.held.proofs.RowSteps.{told, untold}
 use Rattle.prover.specs.Promise.{call_of}
 use Rattle.prover.specs.EntryLaws.{settings_out, memory_out, question_out, read_taken, search_asked, search_out}
-use borrow.Author.Rules.{rules}
 use Rattle.prover.proofs.prove.Goals as goal
 
 pub returns-then-not-settings_fit : goal.returns-then-not-settings_fit

@@ -1,4 +1,3 @@
-use borrow.Author.Rules.{rules}
 use Rattle.prover.specs.StepsLaws.{searches_writable, searches_found, searches_nothing, searches_refused}
 use Rattle.prover.proofs.search.Goals as goal
 

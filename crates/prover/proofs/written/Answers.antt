@@ -1,4 +1,3 @@
-use borrow.Author.Rules.{rules}
 use Rattle.prover.specs.StepsLaws.{writes_bytes, writes_none}
 use Rattle.prover.proofs.written.Goals as goal
 

@@ -2,7 +2,6 @@ use mathlib.Core.Path.{refl}
 use Rattle.short_read.specs.ReadingLaws.{short_refused}
 use Rattle.short_trees.specs.Promise.{expanding}
 use Rattle.short_trees.specs.AskedLaws.{asked_over, asked_back, asked_unread, asked_readable, asked_taken, short_whole}
-use borrow.Author.Rules.{rules}
 use Rattle.short_trees.proofs.expand_in.Goals as goal
 
 pub returns-then-asked : goal.returns-then-asked

@@ -1,5 +1,4 @@
 use native.Mathlib.Omega.{arith}
-use borrow.Author.Rules.{rules}
 use Rattle.short_trees.specs.ExpandReadLaws.{expand_first, expand_full, expand_crowded, expand_mismatch, expand_from, expand_long, expand_short, expand_front, expand_second, expand_kept, expand_written}
 use Rattle.short_trees.proofs.expand_read.Goals as goal
 

@@ -1,11 +1,9 @@
 use mathlib.Core.Path.{sym, ◌∙◌}
 use native.Mathlib.Omega.{arith}
-use borrow.Author.Tests.{not-true, not-false}
 use Rattle.held.proofs.RowSteps.{told, untold}
 use Rattle.memory.specs.MeaningLaws.{wf_length}
 use Rattle.short_trees.specs.Promise.{call_of, shortening}
 use Rattle.short_trees.specs.CallsLaws.{memory_out, question_out, call_enterable, entered_out}
-use borrow.Author.Rules.{rules}
 use Rattle.short_trees.proofs.shorten.Goals as goal
 
 pub returns-then-not-well_formed : goal.returns-then-not-well_formed

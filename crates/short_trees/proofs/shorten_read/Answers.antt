@@ -1,7 +1,5 @@
 use native.Mathlib.Omega.{arith}
-use borrow.Author.Tests.{not-true, not-false}
 use Rattle.short_trees.specs.ShortenReadLaws.{shorten_no_room, shorten_shows, shorten_unlike, shorten_first, shorten_over, shorten_mismatch, shorten_from, shorten_short, shorten_front, shorten_second, shorten_kept, shorten_written}
-use borrow.Author.Rules.{rules}
 use Rattle.short_trees.proofs.shorten_read.Goals as goal
 
 pub returns-then-root : goal.returns-then-root

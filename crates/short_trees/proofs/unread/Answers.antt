@@ -1,5 +1,4 @@
 use mathlib.Core.Path.{refl}
-use borrow.Author.Rules.{rules}
 use Rattle.short_trees.proofs.unread.Goals as goal
 
 pub cut-requires : goal.cut-requires

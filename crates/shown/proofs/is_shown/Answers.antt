@@ -1,6 +1,4 @@
-use borrow.Author.Tests.{not-true, not-false}
 use Rattle.shown.specs.ShownLaws.{linear_listed, other_linear, sequent_shown}
-use borrow.Author.Rules.{rules}
 use Rattle.shown.proofs.is_shown.Goals as goal
 
 pub zone_shown-requires : goal.zone_shown-requires

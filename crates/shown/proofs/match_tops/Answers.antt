@@ -1,6 +1,5 @@
 use Rattle.shown.specs.MatchingLaws.{tag_low, tops_other, tops_unit, tops_names_other, tops_names, tops_one, tops_two}
 use native.Mathlib.Omega.{arith}
-use borrow.Author.Rules.{rules}
 use Rattle.shown.proofs.match_tops.Goals as goal
 
 pub overflow_cast-tag : goal.overflow_cast-tag

@@ -1,8 +1,5 @@
 use Prim.Native.Nat.{◌-◌}
-use native.Mathlib.Omega.{arith}
-use borrow.Author.Rules.{rules}
 use Rattle.shown.specs.Matching.{Showing}
-use Rattle.shown.specs.ShownLaws.{showing_start, compares, showing_short, item_low, showing_differs, showing_next, showing_end}
 use Rattle.shown.proofs.zone_shown.Given as goal
 
 abbrev pub invariant-loop-k : goal.invariant-loop-k

@@ -1,10 +1,6 @@
-use mathlib.Core.Path.{◌≡◌, refl}
-use native.Mathlib.Omega.{arith}
-use borrow.Author.Rules.{rules}
+use mathlib.Core.Path.{refl}
 use Rattle.least.specs.FindingLaws.{word_rule, word_first}
 use Rattle.shrink.specs.ShrinkingLaws.{before_end, node_inside, least_at, least_nowhere, number_word, node_room, word_room, falls_first, shrinks_end, shrinks_nowhere, shrinks_leaf, shrinks_first_full, first_shrinking, shrinks_one, shrinks_failed, second_stepping, shrinks_second_full, falls_second, second_shrinking, shrinks_two}
-use Prim.Native.Nat.{ℕ, ◌-◌, ◌<◌}
-use lib.ListN.{length}
 use Rattle.shrink.proofs.+shrink.Goals as goal
 
 pub returns-then-at-s : goal.returns-then-at-s

@@ -1,5 +1,4 @@
 use Rattle.shrink.specs.ShrinkingLaws.{wrote_both}
-use borrow.Author.Rules.{rules}
 use Rattle.shrink.proofs.put_mask.Goals as goal
 
 pub returns : goal.returns

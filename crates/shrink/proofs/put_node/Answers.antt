@@ -1,7 +1,6 @@
 use native.Mathlib.Omega.{arith}
 use lib.ListN.{length-set}
 use Rattle.shrink.specs.ShrinkingLaws.{node_bytes_few, node_bytes_tensor, put_nothing, put_plain, put_tensor}
-use borrow.Author.Rules.{rules}
 use Rattle.shrink.proofs.put_node.Goals as goal
 
 pub overflow_add-next : goal.overflow_add-next

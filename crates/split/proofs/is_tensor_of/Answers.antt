@@ -1,6 +1,5 @@
 use mathlib.Core.Path.{refl}
 use native.Mathlib.Omega.{arith}
-use borrow.Author.Rules.{rules}
 use Rattle.split.specs.SplittingLaws.{place_low, no_tensor, left_compares, left_differs, right_compares, right_differs, both_match}
 use Rattle.split.proofs.is_tensor_of.Goals as goal
 

@@ -1,9 +1,5 @@
-use mathlib.Core.Path.{refl}
 use Prim.Native.Nat.{◌≤◌, ◌-◌}
-use native.Mathlib.Omega.{arith}
-use borrow.Author.Rules.{rules}
 use Rattle.split.specs.Splitting.{Unlike}
-use Rattle.split.specs.LabelLaws.{linear_low, linear_compares, unlike_start, label_found, unlike_next, label_none}
 use Rattle.split.proofs.label_at.Given as goal
 
 abbrev pub invariant-loop-k : goal.invariant-loop-k

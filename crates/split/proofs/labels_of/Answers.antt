@@ -1,7 +1,4 @@
-use Prim.Native.Nat.{◌-◌}
 use native.Mathlib.Omega.{arith}
-use borrow.Author.Rules.{rules}
-use Rattle.split.specs.Splitting.{Listing}
 use Rattle.split.specs.LabelLaws.{listing_start, listing_last, listing_full, listing_other, listing_next, listing_end, labelled_of, labelled_none}
 use Rattle.split.proofs.labels_of.Goals as goal
 

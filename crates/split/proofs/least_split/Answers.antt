@@ -1,8 +1,5 @@
 use mathlib.Core.Path.{sym}
-use Prim.Native.Nat.{◌-◌}
 use native.Mathlib.Omega.{arith}
-use borrow.Author.Rules.{rules}
-use Rattle.split.specs.Tensors.{Tried}
 use Rattle.split.specs.SplittingLaws.{tried_start, tried_other, tried_nowhere, tried_found, tried_end, place_asked, place_removable}
 use Rattle.zones.specs.ZonesLaws.{linears_length}
 use Rattle.split.proofs.least_split.Goals as goal

@@ -1,7 +1,5 @@
 use mathlib.Core.Path.{refl, sym}
 use native.Mathlib.Omega.{arith}
-use borrow.Author.Rules.{rules}
-use borrow.Author.Tests.{not-true, not-false}
 use lib.Seq.{length-take-le}
 use Rattle.split.specs.LabelLaws.{labelled_listed, labelled_unlisted}
 use Rattle.split.specs.LeastTensorLaws.{none_decomposable, some_decomposable, other_unrestricted, other_unrestricted_second, other_linear, other_linear_second, splitting, split_is}

@@ -1,5 +1,4 @@
 use Rattle.step.proofs.TakingSteps.{decomposed_past, decomposed_listed}
-use borrow.Author.Rules.{rules}
 use Rattle.step.proofs.decomposed.Goals as goal
 
 pub returns-then-rule-gt17 : goal.returns-then-rule-gt17

@@ -1,5 +1,4 @@
 use Rattle.step.proofs.TakingSteps.{alone_more, alone_later, alone_tag}
-use borrow.Author.Rules.{rules}
 use Rattle.step.proofs.is_alone.Goals as goal
 
 pub returns-then-z-ne1 : goal.returns-then-z-ne1

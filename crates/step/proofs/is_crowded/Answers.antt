@@ -1,5 +1,4 @@
 use Rattle.step.proofs.TakingSteps.{crowded_room, crowded_par, crowded_contraction}
-use borrow.Author.Rules.{rules}
 use Rattle.step.proofs.is_crowded.Goals as goal
 
 pub returns-then-count-lt-MOST : goal.returns-then-count-lt-MOST

@@ -1,6 +1,5 @@
 use native.Mathlib.Omega.{arith}
 use Rattle.step.proofs.TakingSteps.{linear_fits, pair_none, pair_apart, pair_atom, pair_negation, pair_unlike}
-use borrow.Author.Rules.{rules}
 use Rattle.step.proofs.is_pair.Goals as goal
 
 pub returns-then-z-ne2 : goal.returns-then-z-ne2

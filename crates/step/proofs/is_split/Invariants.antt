@@ -1,6 +1,5 @@
 use Prim.Native.Nat.{◌≤◌, ◌-◌}
-use native.Mathlib.Omega.{arith}
-use Rattle.step.proofs.TakingSteps.{split_other, split_some, split_spare, Spare, spare_start, spare_next}
+use Rattle.step.proofs.TakingSteps.{Spare}
 use Rattle.step.proofs.is_split.Given as goal
 
 abbrev pub invariant-loop-k : goal.invariant-loop-k

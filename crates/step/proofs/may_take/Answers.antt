@@ -1,6 +1,5 @@
 use Rattle.step.proofs.TakingSteps.{take_elsewhere, take_first, take_nothing, focused}
 use native.Mathlib.Omega.{arith}
-use borrow.Author.Rules.{rules}
 use Rattle.step.proofs.may_take.Goals as goal
 
 pub returns-then-place-first : goal.returns-then-place-first

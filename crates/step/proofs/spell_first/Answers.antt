@@ -2,7 +2,6 @@ use native.Mathlib.Omega.{arith}
 use Rattle.step.proofs.TakingSteps.{linear_fits}
 use Rattle.held.proofs.TurnSteps.{is_full, entered_at, entered_full}
 use Rattle.step.proofs.SpeltSteps.{first_in, number_fits, spelt_none, spelt_other, is_implication, spelt_full, spelt_lolli}
-use borrow.Author.Rules.{rules}
 use Rattle.step.proofs.spell_first.Goals as goal
 
 pub returns-then-i-n : goal.returns-then-i-n

@@ -1,5 +1,4 @@
 use Rattle.step.proofs.TakingSteps.{focused_axiom_place, focused_axiom, focused_one, focused_tensor, focused_plus_left, focused_plus_right, focused_of_course, focused_weakening, focused_contraction, focused_dereliction, focused_other}
-use borrow.Author.Rules.{rules}
 use Rattle.step.proofs.takes_focused.Goals as goal
 
 pub returns-then-place-ne0 : goal.returns-then-place-ne0

@@ -1,6 +1,5 @@
 use Rattle.strict.specs.StepsLaws.{bottom_other, bottom_told}
 use mathlib.Core.Path.{sym, ◌∙◌}
-use borrow.Author.Rules.{rules}
 use Rattle.strict.proofs.bottom_step.Goals as goal
 
 pub returns-then-f-ne1 : goal.returns-then-f-ne1

@@ -1,6 +1,4 @@
 use Rattle.strict.specs.StepsLaws.{contraction_no, contraction_told}
-use borrow.Author.Tests.{not-true, not-false}
-use borrow.Author.Rules.{rules}
 use Rattle.strict.proofs.contraction_step.Goals as goal
 
 pub same_bag-requires : goal.same_bag-requires

@@ -1,8 +1,6 @@
 use Rattle.strict.specs.ZonesLaws.{cut_within, cut_reads, dual_reads}
 use Rattle.strict.specs.StepsLaws.{cut_no_left, cut_no_right, cut_told}
-use borrow.Author.Tests.{not-true, not-false}
 use mathlib.Core.Path.{refl}
-use borrow.Author.Rules.{rules}
 use Rattle.strict.proofs.cut_step.Goals as goal
 
 pub stands_in-requires : goal.stands_in-requires

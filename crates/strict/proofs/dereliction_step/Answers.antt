@@ -1,6 +1,4 @@
 use Rattle.strict.specs.StepsLaws.{dereliction_no, dereliction_told}
-use borrow.Author.Tests.{not-true, not-false}
-use borrow.Author.Rules.{rules}
 use Rattle.strict.proofs.dereliction_step.Goals as goal
 
 pub same_bag-requires : goal.same_bag-requires

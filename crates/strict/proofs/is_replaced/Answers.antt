@@ -1,5 +1,4 @@
 use Rattle.strict.specs.StepsLaws.{replaced}
-use borrow.Author.Rules.{rules}
 use Rattle.strict.proofs.is_replaced.Goals as goal
 
 pub same_bag-requires : goal.same_bag-requires

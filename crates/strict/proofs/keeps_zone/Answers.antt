@@ -1,4 +1,3 @@
-use borrow.Author.Rules.{rules}
 use Rattle.strict.proofs.keeps_zone.Goals as goal
 
 pub same_bag-requires : goal.same_bag-requires

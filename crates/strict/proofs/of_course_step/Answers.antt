@@ -1,8 +1,6 @@
 use Rattle.strict.specs.StepsLaws.{of_course_other, of_course_no, of_course_told}
-use borrow.Author.Tests.{not-true, not-false}
 use mathlib.Core.Path.{sym, ◌∙◌}
 use native.Mathlib.Omega.{arith}
-use borrow.Author.Rules.{rules}
 use Rattle.strict.proofs.of_course_step.Goals as goal
 
 pub returns-then-f-ne11 : goal.returns-then-f-ne11

@@ -1,4 +1,3 @@
-use borrow.Author.Tests.{not-true, not-false}
 use Rattle.strict.specs.ZonesLaws.{node_inside}
 use Rattle.strict.specs.RulesLaws.{one_taken, one_moved, one_changed, one_kept}
 use Rattle.strict.proofs.one_premise.Goals as goal

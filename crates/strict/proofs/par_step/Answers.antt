@@ -1,7 +1,6 @@
 use Rattle.strict.specs.StepsLaws.{par_other, par_told}
 use mathlib.Core.Path.{sym, ◌∙◌}
 use native.Mathlib.Omega.{arith}
-use borrow.Author.Rules.{rules}
 use Rattle.strict.proofs.par_step.Goals as goal
 
 pub returns-then-f-ne7 : goal.returns-then-f-ne7

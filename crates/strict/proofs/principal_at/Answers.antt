@@ -1,6 +1,5 @@
 use Rattle.strict.specs.ZonesLaws.{principal_at}
 use mathlib.Core.Path.{refl}
-use borrow.Author.Rules.{rules}
 use Rattle.strict.proofs.principal_at.Goals as goal
 
 pub returns : goal.returns

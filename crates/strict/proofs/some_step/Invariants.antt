@@ -1,8 +1,5 @@
-use mathlib.Core.Path.{refl}
 use Prim.Native.Nat.{◌-◌}
-use native.Mathlib.Omega.{arith}
 use Rattle.strict.specs.Rules.{Trying}
-use Rattle.strict.specs.RulesLaws.{trying_start, trying_next, trying_found, trying_end}
 use Rattle.strict.proofs.some_step.Given as goal
 
 abbrev pub invariant-loop-x : goal.invariant-loop-x

@@ -1,6 +1,5 @@
 use Rattle.strict.specs.ZonesLaws.{stands_in}
 use mathlib.Core.Path.{refl}
-use borrow.Author.Rules.{rules}
 use Rattle.strict.proofs.stands_in.Goals as goal
 
 pub returns : goal.returns

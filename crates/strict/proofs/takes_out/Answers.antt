@@ -1,5 +1,4 @@
 use Rattle.strict.specs.Steps.{takes_out}
-use borrow.Author.Rules.{rules}
 use Rattle.strict.proofs.takes_out.Goals as goal
 
 pub same_bag-requires : goal.same_bag-requires

@@ -1,8 +1,6 @@
 use Rattle.strict.specs.StepsLaws.{tensor_other, tensor_no_left, tensor_no_right, tensor_told}
-use borrow.Author.Tests.{not-true, not-false}
 use mathlib.Core.Path.{sym, ◌∙◌}
 use native.Mathlib.Omega.{arith}
-use borrow.Author.Rules.{rules}
 use Rattle.strict.proofs.tensor_step.Goals as goal
 
 pub returns-then-f-ne6 : goal.returns-then-f-ne6

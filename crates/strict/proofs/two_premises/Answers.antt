@@ -1,4 +1,3 @@
-use borrow.Author.Tests.{not-true, not-false}
 use Rattle.strict.specs.ZonesLaws.{node_inside}
 use Rattle.strict.specs.RulesLaws.{two_changed, two_changed_second, two_cut, two_kept}
 use Rattle.strict.proofs.two_premises.Goals as goal

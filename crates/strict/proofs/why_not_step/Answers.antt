@@ -1,8 +1,6 @@
 use Rattle.strict.specs.StepsLaws.{why_not_other, why_not_no, why_not_told}
-use borrow.Author.Tests.{not-true, not-false}
 use mathlib.Core.Path.{sym, ◌∙◌}
 use native.Mathlib.Omega.{arith}
-use borrow.Author.Rules.{rules}
 use Rattle.strict.proofs.why_not_step.Goals as goal
 
 pub returns-then-f-ne12 : goal.returns-then-f-ne12

@@ -1,5 +1,4 @@
 use Rattle.strict.specs.StepsLaws.{with_other, with_no, with_told, with_whole}
-use borrow.Author.Tests.{not-true, not-false}
 use mathlib.Core.Path.{sym, ◌∙◌}
 use native.Mathlib.Omega.{arith}
 use Rattle.strict.proofs.with_step.Goals as goal

@@ -1,7 +1,5 @@
 use native.Mathlib.Omega.{arith}
-use Rattle.tree.specs.ReadingLaws.{node_none, node_too_high, node_head_refused, head_landed, node_premise_refused, premises_landed, node_read, Reading, reading_start, reading_end, reading_refused, reading_next}
-use borrow.Author.Rules.{rules}
-use Prim.Native.Nat.{ℕ, ◌+◌, ◌*◌, ◌<◌}
+use Rattle.tree.specs.ReadingLaws.{node_none, node_too_high, node_head_refused, head_landed, node_premise_refused, premises_landed, node_read, reading_start, reading_end, reading_refused, reading_next}
 use Rattle.tree.proofs.+read_node_read_premises.Goals as goal
 
 pub read_node-returns-then-at-s : goal.read_node-returns-then-at-s

@@ -1,6 +1,5 @@
 use mathlib.Core.Logic.{inl, inr}
 use Rattle.tree.specs.PlacesLaws.{argument_none, argument_lacking, argument_formula, argument_two}
-use borrow.Author.Rules.{rules}
 use Rattle.tree.proofs.after_argument.Goals as goal
 
 pub returns-then-at-s : goal.returns-then-at-s

@@ -1,8 +1,5 @@
-use Prim.Native.Nat.{◌-◌}
-use lib.ListN.{length}
 use native.Mathlib.Omega.{arith}
-use borrow.Author.Rules.{rules}
-use Rattle.tree.specs.PlacesLaws.{Passing, passing_start, passing_end, passing_short, passing_next}
+use Rattle.tree.specs.PlacesLaws.{passing_start, passing_end, passing_short, passing_next}
 use Rattle.tree.proofs.after_tree.Goals as goal
 
 pub loop-awaited-init : goal.loop-awaited-init

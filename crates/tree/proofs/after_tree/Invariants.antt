@@ -1,8 +1,6 @@
 use Prim.Native.Nat.{◌-◌}
 use lib.ListN.{length}
-use native.Mathlib.Omega.{arith}
-use borrow.Author.Rules.{rules}
-use Rattle.tree.specs.PlacesLaws.{Passing, passing_start, passing_end, passing_short, passing_next}
+use Rattle.tree.specs.PlacesLaws.{Passing}
 use Rattle.tree.proofs.after_tree.Given as goal
 
 abbrev pub invariant-loop-awaited : goal.invariant-loop-awaited

@@ -1,5 +1,4 @@
 use Rattle.tree.specs.ReadingLaws.{depth_refused, depth_measured}
-use borrow.Author.Rules.{rules}
 use Rattle.tree.proofs.depth.Goals as goal
 
 pub returns-in-Refused : goal.returns-in-Refused

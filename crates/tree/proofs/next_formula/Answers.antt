@@ -1,5 +1,4 @@
 use Rattle.tree.specs.PlacesLaws.{passed_next, passed_refused}
-use borrow.Author.Rules.{rules}
 use Rattle.tree.proofs.next_formula.Goals as goal
 
 pub returns-in-Next : goal.returns-in-Next

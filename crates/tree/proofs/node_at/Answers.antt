@@ -1,6 +1,5 @@
 use mathlib.Core.Path.{◌∙◌}
 use Rattle.tree.specs.PlacesLaws.{node_found}
-use borrow.Author.Rules.{rules}
 use Rattle.tree.proofs.node_at.Goals as goal
 
 pub returns : goal.returns

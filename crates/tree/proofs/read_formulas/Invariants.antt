@@ -1,7 +1,5 @@
 use Prim.Native.Nat.{◌-◌}
-use native.Mathlib.Omega.{arith}
-use borrow.Author.Rules.{rules}
-use Rattle.tree.specs.ReadingLaws.{Counting, counting_start, counting_end, counting_refused, counting_further, counting_next}
+use Rattle.tree.specs.ReadingLaws.{Counting}
 use Rattle.tree.proofs.read_formulas.Given as goal
 
 abbrev pub invariant-loop-p : goal.invariant-loop-p

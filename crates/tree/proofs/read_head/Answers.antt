@@ -1,6 +1,5 @@
 use native.Mathlib.Omega.{arith}
 use Rattle.tree.specs.ReadingLaws.{head_rule_refused, rule_landed, head_sequent_refused, sequent_landed, head_short, head_read}
-use borrow.Author.Rules.{rules}
 use Rattle.tree.proofs.read_head.Goals as goal
 
 pub read_sequent-requires : goal.read_sequent-requires

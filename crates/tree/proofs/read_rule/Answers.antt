@@ -1,6 +1,5 @@
 use native.Mathlib.Omega.{arith}
 use Rattle.tree.specs.ReadingLaws.{rule_unknown, rule_cut, rule_bare, rule_two_short, rule_two}
-use borrow.Author.Rules.{rules}
 use Rattle.tree.proofs.read_rule.Goals as goal
 
 pub returns-then-rule-gt-BLUR : goal.returns-then-rule-gt-BLUR

@@ -1,7 +1,6 @@
 use Rattle.tree.specs.ReadingLaws.{counts_small}
 use native.Mathlib.Omega.{arith}
-use Rattle.tree.specs.ReadingLaws.{zone_small, first_zone_refused, first_zone, second_zone_refused, sequent_too_many, sequent_read}
-use borrow.Author.Rules.{rules}
+use Rattle.tree.specs.ReadingLaws.{first_zone_refused, first_zone, second_zone_refused, sequent_too_many, sequent_read}
 use Rattle.tree.proofs.read_sequent.Goals as goal
 
 pub read_zone-requires-in-Holds : goal.read_zone-requires-in-Holds

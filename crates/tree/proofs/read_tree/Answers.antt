@@ -1,6 +1,4 @@
-use native.Mathlib.Omega.{arith}
 use Rattle.tree.specs.ReadingLaws.{tree_short, tree_version, tree_length, tree_node_refused, tree_left_over, tree_read_whole}
-use borrow.Author.Rules.{rules}
 use Rattle.tree.proofs.read_tree.Goals as goal
 
 pub returns-then-s-lt3 : goal.returns-then-s-lt3

@@ -1,5 +1,4 @@
 use native.Mathlib.Omega.{arith}
-use borrow.Author.Rules.{rules}
 use Rattle.tree.specs.ReadingLaws.{zone_short, zone_cut, zone_formula_refused, zone_counted}
 use Rattle.tree.proofs.read_zone.Goals as goal
 

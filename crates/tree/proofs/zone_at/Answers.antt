@@ -1,5 +1,4 @@
 use Rattle.tree.specs.PlacesLaws.{zone_found}
-use borrow.Author.Rules.{rules}
 use Rattle.tree.proofs.zone_at.Goals as goal
 
 pub returns : goal.returns

@@ -1,5 +1,4 @@
 use mathlib.Core.Path.{ap, ◌∙◌}
-use borrow.Author.Rules.{rules}
 use Rattle.vakelumba.specs.Says.{of_measured}
 use Rattle.vakelumba.specs.SaysLaws.{answer_said}
 use Rattle.vakelumba.proofs.vk_depth.Goals as goal

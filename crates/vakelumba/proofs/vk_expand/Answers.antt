@@ -1,4 +1,3 @@
-use borrow.Author.Rules.{rules}
 use Rattle.short_trees.specs.Promise.{expanding}
 use Rattle.vakelumba.specs.ShortsLaws.{short_said}
 use Rattle.vakelumba.proofs.vk_expand.Goals as goal

@@ -1,4 +1,3 @@
-use borrow.Author.Rules.{rules}
 use Rattle.vakelumba.specs.SaysLaws.{text_said}
 use Rattle.vakelumba.proofs.vk_pretty.Goals as goal
 

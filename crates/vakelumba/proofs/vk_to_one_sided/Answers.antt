@@ -1,4 +1,3 @@
-use borrow.Author.Rules.{rules}
 use Rattle.vakelumba.specs.SaysLaws.{turned_said}
 use Rattle.vakelumba.proofs.vk_to_one_sided.Goals as goal
 

@@ -1,4 +1,3 @@
-use borrow.Author.Rules.{rules}
 use Rattle.vakelumba.specs.SaysLaws.{formed_well, formed_ill}
 use Rattle.vakelumba.proofs.vk_well_formed.Goals as goal
 

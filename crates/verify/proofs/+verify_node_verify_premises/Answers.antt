@@ -1,9 +1,6 @@
 use native.Mathlib.Omega.{arith}
 use Rattle.strict.specs.ZonesLaws.{node_inside}
-use Rattle.verify.specs.Walks.{mode_test}
-use Rattle.verify.specs.WalksLaws.{walk_no_level, walk_no_byte, walk_failed, walk_premises, Walking, walking_start, walking_end, walking_failed, walking_next}
-use borrow.Author.Rules.{rules}
-use Prim.Native.Nat.{ℕ, ◌+◌, ◌*◌, ◌<◌}
+use Rattle.verify.specs.WalksLaws.{walk_no_level, walk_no_byte, walk_failed, walk_premises, walking_start, walking_end, walking_failed, walking_next}
 use Rattle.verify.proofs.+verify_node_verify_premises.Goals as goal
 
 pub verify_node-returns-then-levels-eq0 : goal.verify_node-returns-then-levels-eq0

@@ -1,9 +1,6 @@
-use native.Mathlib.Omega.{arith}
-use Rattle.strict.specs.ZonesLaws.{node_inside}
 use Rattle.verify.specs.Walks.{mode_test}
-use Rattle.verify.specs.WalksLaws.{walk_no_level, walk_no_byte, walk_failed, walk_premises, Walking, walking_start, walking_end, walking_failed, walking_next}
-use borrow.Author.Rules.{rules}
-use Prim.Native.Nat.{ℕ, ◌+◌, ◌*◌, ◌<◌}
+use Rattle.verify.specs.WalksLaws.{Walking}
+use Prim.Native.Nat.{◌+◌, ◌*◌}
 use Rattle.verify.proofs.+verify_node_verify_premises.Given as goal
 
 abbrev pub decreases-verify_node : goal.decreases-verify_node

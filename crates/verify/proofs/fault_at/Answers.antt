@@ -1,5 +1,3 @@
-use borrow.Author.Rules.{rules}
-use borrow.Author.Tests.{not-true, not-false}
 use Rattle.verify.specs.WalksLaws.{fault_first, fault_shape, fault_mismatch, fault_legal}
 use Rattle.verify.proofs.fault_at.Goals as goal
 

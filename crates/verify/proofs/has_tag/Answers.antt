@@ -1,6 +1,5 @@
-use Prim.Native.Nat.{◌-◌}
 use native.Mathlib.Omega.{arith}
-use Rattle.verify.specs.ShapesLaws.{Seeking, seeking_start, seeking_end, seeking_found, seeking_next}
+use Rattle.verify.specs.ShapesLaws.{seeking_start, seeking_end, seeking_found, seeking_next}
 use Rattle.verify.proofs.has_tag.Goals as goal
 
 pub loop-p-init : goal.loop-p-init

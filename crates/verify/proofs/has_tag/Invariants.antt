@@ -1,6 +1,5 @@
 use Prim.Native.Nat.{◌-◌}
-use native.Mathlib.Omega.{arith}
-use Rattle.verify.specs.ShapesLaws.{Seeking, seeking_start, seeking_end, seeking_found, seeking_next}
+use Rattle.verify.specs.ShapesLaws.{Seeking}
 use Rattle.verify.proofs.has_tag.Given as goal
 
 abbrev pub invariant-loop-p : goal.invariant-loop-p

@@ -1,5 +1,4 @@
 use Rattle.verify.specs.ShapesLaws.{order_shaped, order_unshaped, order_counted, order_miscounted}
-use borrow.Author.Rules.{rules}
 use Rattle.verify.proofs.ordered_fault.Goals as goal
 
 pub returns-then-is_shaped : goal.returns-then-is_shaped

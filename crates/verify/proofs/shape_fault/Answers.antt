@@ -1,7 +1,6 @@
 use mathlib.Core.Bool.{true, false}
 use Rattle.verify.specs.Shapes.{shape_tests, test_of}
 use Rattle.verify.specs.ShapesLaws.{shape_found, shape_none, order_answer}
-use borrow.Author.Rules.{rules}
 use Rattle.verify.proofs.shape_fault.Goals as goal
 
 pub returns-in-0 : goal.returns-in-0

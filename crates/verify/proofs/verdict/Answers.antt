@@ -1,5 +1,4 @@
 use Rattle.verify.specs.Verdicts.{told}
-use borrow.Author.Rules.{rules}
 use Rattle.verify.proofs.verdict.Goals as goal
 
 pub returns-in-None : goal.returns-in-None

@@ -1,4 +1,3 @@
-use borrow.Author.Rules.{rules}
 use Rattle.verify.specs.Walks.{mode_test}
 use Rattle.verify.proofs.verify.Goals as goal
 

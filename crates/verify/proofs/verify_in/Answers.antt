@@ -1,5 +1,4 @@
 use native.Mathlib.Omega.{arith}
-use borrow.Author.Rules.{rules}
 use Rattle.wire.specs.Fits.{Bytes}
 use Rattle.verify.specs.WalksLaws.{three_bytes, read_short, checked_refused, checked_accepted, checked_failed}
 use Rattle.verify.proofs.verify_in.Goals as goal

@@ -1,7 +1,5 @@
 use Prim.Native.Nat.{◌-◌}
-use native.Mathlib.Omega.{arith}
-use borrow.Author.Rules.{rules}
-use Rattle.zones.proofs.Steps.{Moving, moving_start, moving_step, moving_end}
+use Rattle.zones.proofs.Steps.{Moving}
 use Rattle.zones.proofs.shift_down.Given as goal
 
 abbrev pub invariant-loop-k : goal.invariant-loop-k

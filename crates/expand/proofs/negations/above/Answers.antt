@@ -1,4 +1,3 @@
-use borrow.Author.Rules.{rules}
 use Rattle.expand.proofs.NegationSteps.{above_other, above_within, above_raised}
 use Rattle.expand.proofs.negations.above.Goals as goal
 

@@ -1,6 +1,5 @@
 use mathlib.Core.Path.{refl}
 use Rattle.logic.specs.Parts.{negated_tag}
-use borrow.Author.Rules.{rules}
 use Rattle.expand.proofs.negations.dual.Goals as goal
 
 pub returns : goal.returns

@@ -1,6 +1,5 @@
 use native.Mathlib.Omega.{arith}
 use Rattle.expand.proofs.NegationSteps.{negation_tag, leaf_next, leaf_noted, lolli_none, lolli_next, lolli_noted, left_none, left_in, right_in, mid_none_right, mid_next, mid_noted, high_next, high_noted}
-use borrow.Author.Rules.{rules}
 use Rattle.expand.proofs.negations.negation.Goals as goal
 
 pub number_of-requires : goal.number_of-requires

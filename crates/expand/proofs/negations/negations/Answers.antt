@@ -1,7 +1,5 @@
 use mathlib.Core.Path.{◌∙◌, sym}
-use Prim.Native.Nat.{◌≤◌, ◌-◌}
 use native.Mathlib.Omega.{arith}
-use Rattle.expand.specs.Negations.{Table}
 use Rattle.expand.proofs.NegationSteps.{noted_fits, table_start, table_next, table_negated}
 use Rattle.expand.proofs.negations.negations.Goals as goal
 

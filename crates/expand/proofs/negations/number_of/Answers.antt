@@ -1,6 +1,5 @@
 use native.Mathlib.Omega.{arith}
 use Rattle.expand.proofs.NegationSteps.{number_some, number_none, number_fits}
-use borrow.Author.Rules.{rules}
 use Rattle.expand.proofs.negations.number_of.Goals as goal
 
 pub overflow_add-result : goal.overflow_add-result

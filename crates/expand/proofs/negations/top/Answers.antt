@@ -1,7 +1,4 @@
-use Prim.Native.Nat.{◌≤◌, ◌-◌}
 use native.Mathlib.Omega.{arith}
-use borrow.Author.Rules.{rules}
-use Rattle.expand.specs.Negations.{Above}
 use Rattle.expand.proofs.NegationSteps.{above_start, above_end}
 use Rattle.expand.proofs.negations.top.Goals as goal
 

@@ -2,7 +2,6 @@ use mathlib.Core.Path.{refl}
 use native.Mathlib.Omega.{arith}
 use Rattle.expand.proofs.ByteSteps.{wrote_length}
 use Rattle.expand.proofs.TreeSteps.{level_left, word_in, word_rule, carries_spells, first_step, second_step, writing_head, first_writing, second_writing, written_leaf, written_one, written_two, written_length}
-use Prim.Native.Nat.{ℕ, ◌<◌}
 use Rattle.expand.proofs.nodes.+node_bytes.Goals as goal
 
 pub offset_bounds-words-at : goal.offset_bounds-words-at

@@ -1,5 +1,4 @@
 use native.Mathlib.Omega.{arith}
-use borrow.Author.Rules.{rules}
 use Rattle.expand.proofs.ByteSteps.{wrote_length}
 use Rattle.expand.proofs.TreeSteps.{head_start, count_fits, linear_room, unrestricted_room, count_room, count_low, head_wrote}
 use Rattle.expand.proofs.nodes.head_bytes.Goals as goal

@@ -1,5 +1,4 @@
 use native.Mathlib.Omega.{arith}
-use borrow.Author.Rules.{rules}
 use Rattle.expand.proofs.TreeSteps.{body_over, room_short, message_room, message_fits}
 use Rattle.expand.proofs.nodes.write_tree.Goals as goal
 

@@ -1,10 +1,5 @@
-use mathlib.Core.Path.{◌≡◌, refl}
-use mathlib.Core.Bool.{false}
-use Prim.Native.Nat.{ℕ, ◌≤◌, ◌<◌, ◌-◌}
+use mathlib.Core.Path.{refl}
 use native.Mathlib.Omega.{arith}
-use lib.ListN.{get_or}
-use Rattle.logic.specs.Built.{decomposable}
-use Rattle.held.specs.Words.{told}
 use Rattle.expand.proofs.SpellSteps.{linear_fits, first_here, first_next, first_none, tag_decomposes}
 use Rattle.expand.proofs.steps.first_decomposable.Goals as goal
 

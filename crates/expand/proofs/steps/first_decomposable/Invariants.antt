@@ -1,11 +1,9 @@
-use mathlib.Core.Path.{◌≡◌, refl}
+use mathlib.Core.Path.{◌≡◌}
 use mathlib.Core.Bool.{false}
 use Prim.Native.Nat.{ℕ, ◌≤◌, ◌<◌, ◌-◌}
-use native.Mathlib.Omega.{arith}
 use lib.ListN.{get_or}
 use Rattle.logic.specs.Built.{decomposable}
 use Rattle.held.specs.Words.{told}
-use Rattle.expand.proofs.SpellSteps.{linear_fits, first_here, first_next, first_none, tag_decomposes}
 use Rattle.expand.proofs.steps.first_decomposable.Given as goal
 
 abbrev pub invariant-loop-i : goal.invariant-loop-i

@@ -1,5 +1,4 @@
 use native.Mathlib.Omega.{arith}
-use borrow.Author.Rules.{rules}
 use Rattle.expand.proofs.SpellSteps.{linear_fits}
 use Rattle.expand.proofs.PremiseSteps.{second_in, moved_room, tensor_second_means, with_second_means}
 use Rattle.expand.proofs.steps.second_premise.Goals as goal

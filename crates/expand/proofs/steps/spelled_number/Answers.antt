@@ -1,5 +1,4 @@
 use native.Mathlib.Omega.{arith}
-use borrow.Author.Rules.{rules}
 use Rattle.expand.proofs.SpellSteps.{left_within, left_some, number_next, number_some, number_fits, number_spells}
 use Rattle.expand.proofs.steps.spelled_number.Goals as goal
 

@@ -1,8 +1,4 @@
-use Prim.Native.Nat.{◌≤◌, ◌-◌}
 use native.Mathlib.Omega.{arith}
-use Rattle.wire.specs.Write.{write_formulas}
-use Rattle.held.specs.Words.{named}
-use Rattle.expand.specs.Writing.{Wrote}
 use Rattle.expand.proofs.ByteSteps.{item_low, written_start, written_room, written_next, written_end, wrote_length}
 use Rattle.expand.proofs.writers.items_bytes.Goals as goal
 

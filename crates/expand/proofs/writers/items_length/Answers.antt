@@ -1,6 +1,4 @@
-use Prim.Native.Nat.{◌≤◌, ◌-◌}
 use native.Mathlib.Omega.{arith}
-use Rattle.expand.specs.Writing.{Weighs}
 use Rattle.expand.proofs.ByteSteps.{item_low, weighs_start, weighs_next, weighs_end}
 use Rattle.expand.proofs.writers.items_length.Goals as goal
 

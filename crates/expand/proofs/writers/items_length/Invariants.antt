@@ -1,7 +1,5 @@
 use Prim.Native.Nat.{◌≤◌, ◌-◌}
-use native.Mathlib.Omega.{arith}
 use Rattle.expand.specs.Writing.{Weighs}
-use Rattle.expand.proofs.ByteSteps.{item_low, weighs_start, weighs_next, weighs_end}
 use Rattle.expand.proofs.writers.items_length.Given as goal
 
 abbrev pub invariant-loop-k : goal.invariant-loop-k

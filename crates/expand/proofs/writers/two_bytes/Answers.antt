@@ -2,7 +2,6 @@ use native.Mathlib.Omega.{arith}
 use lib.ListN.{length-set}
 use Rattle.expand.proofs.ByteSteps.{wrote_two}
 use Prim.Native.Nat.{◌/◌}
-use borrow.Author.Rules.{rules}
 use Rattle.expand.proofs.writers.two_bytes.Goals as goal
 
 pub bounds-out-to-2 : goal.bounds-out-to-2

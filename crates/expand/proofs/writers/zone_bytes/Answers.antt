@@ -1,5 +1,4 @@
 use Rattle.expand.proofs.ByteSteps.{length_room, zone_items, zone_wrote, wrote_length}
-use borrow.Author.Rules.{rules}
 use Rattle.expand.proofs.writers.zone_bytes.Goals as goal
 
 pub two_bytes-next-requires : goal.two_bytes-next-requires

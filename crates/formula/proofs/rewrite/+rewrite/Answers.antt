@@ -1,9 +1,7 @@
 use mathlib.Core.Path.{refl, sym, ◌∙◌}
 use native.Mathlib.Omega.{arith}
-use borrow.Author.Rules.{rules}
 use Rattle.formula.proofs.RewritingLaws.{unit_rewritten, named_rewritten, unary_rewritten, binary_rewritten, inside, below, known, name_inside, part_ready, first_ready, second_ready, second_after}
-use Prim.Native.Nat.{ℕ, ◌<◌, ◌-◌}
-use lib.ListN.{length, length-set}
+use lib.ListN.{length-set}
 use Rattle.formula.proofs.rewrite.+rewrite.Goals as goal
 
 pub bounds-s-at : goal.bounds-s-at

@@ -1,5 +1,4 @@
 use mathlib.Core.Path.{sym, ap, ◌∙◌}
-use borrow.Author.Rules.{rules}
 use Rattle.formula.specs.Rewriting.{other_way}
 use Rattle.formula.proofs.RewritingLaws.{left_of_lolli, left_of_other}
 use Rattle.formula.proofs.rewrite.left.Goals as goal

@@ -1,5 +1,4 @@
 use mathlib.Core.Path.{sym, ◌∙◌}
-use borrow.Author.Rules.{rules}
 use Rattle.formula.proofs.CallsLaws.{whole, writes_refused}
 use Rattle.formula.proofs.RewritingLaws.{rewrite_ready, rewrite_short, rewrite_done}
 use Rattle.formula.proofs.rewrite.rewrite_one.Goals as goal

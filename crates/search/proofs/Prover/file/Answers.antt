@@ -1,6 +1,5 @@
 use mathlib.Core.Path.{refl, sym, ◌∙◌}
 use mathlib.Core.Bool.{false≢true}
-use borrow.Author.Rules.{rules}
 use Rattle.search.proofs.Prover.file.Goals as goal
 
 pub returns-then-self : goal.returns-then-self

@@ -1,5 +1,4 @@
 use mathlib.Core.Path.{◌∙◌}
-use borrow.Author.Rules.{rules}
 use Rattle.search.proofs.Prover.seen.Goals as goal
 
 pub returns-then-self : goal.returns-then-self

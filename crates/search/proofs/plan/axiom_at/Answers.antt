@@ -4,7 +4,6 @@ use native.Mathlib.Omega.{arith}
 use Rattle.logic.specs.Formula.{NegAtom}
 use Rattle.zones.specs.ZonesLaws.{within_linear}
 use Rattle.memory.specs.Shapes.{ShapeOf}
-use borrow.Author.Rules.{rules}
 use Rattle.search.proofs.plan.axiom_at.Goals as goal
 
 pub shape_at-s-requires : goal.shape_at-s-requires

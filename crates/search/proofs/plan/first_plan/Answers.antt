@@ -1,11 +1,8 @@
 use Rattle.search.proofs.Leaves.{passed_next, planned_here, none_first}
-use borrow.Author.Rules.{rules}
-use Prim.Native.Nat.{◌-◌, ◌≤◌}
 use native.Mathlib.Omega.{arith}
-use lib.ListN.{take}
-use Rattle.logic.specs.Built.{Passed, none_yet}
+use Rattle.logic.specs.Built.{none_yet}
 use Rattle.zones.specs.ZonesLaws.{within_linear}
-use Rattle.search.specs.Plans.{sequent, PlannedAt}
+use Rattle.search.specs.Plans.{PlannedAt}
 use mathlib.Core.Path.{subst}
 use Rattle.search.proofs.plan.first_plan.Goals as goal
 

@@ -2,7 +2,6 @@ use Rattle.search.proofs.Leaves.{linear_here, not_alone_one, two_here, alone_her
 use mathlib.Core.Path.{subst, ◌∙◌}
 use Rattle.zones.specs.ZonesLaws.{within_linear}
 use Rattle.memory.specs.Shapes.{ShapeOf}
-use borrow.Author.Rules.{rules}
 use Rattle.search.proofs.plan.focus_on.Goals as goal
 
 pub shape_at-s-requires : goal.shape_at-s-requires

@@ -1,9 +1,5 @@
-use mathlib.Core.Path.{◌≡◌, refl, ◌∙◌, ap}
-use Prim.Native.Nat.{ℕ, ◌^◌, ◌-◌, ◌≤◌}
-use native.Mathlib.Nat.{two-pow-succ}
-use native.Mathlib.Numerals.{add-one}
-use Rattle.search.proofs.Leaves.{pow_small}
-use native.Mathlib.Omega.{arith}
+use mathlib.Core.Path.{◌≡◌}
+use Prim.Native.Nat.{◌^◌, ◌-◌, ◌≤◌}
 use Rattle.search.proofs.plan.masks_over.Given as goal
 
 abbrev pub invariant-loop-doubled : goal.invariant-loop-doubled

@@ -1,7 +1,6 @@
 use Rattle.search.proofs.Leaves.{undecomposable, implication_here}
 use mathlib.Core.Path.{refl, subst}
 use Rattle.memory.specs.Shapes.{ShapeOf}
-use borrow.Author.Rules.{rules}
 use Rattle.search.proofs.plan.plan_at.Goals as goal
 
 pub returns-in-Par : goal.returns-in-Par

@@ -1,6 +1,5 @@
 use Rattle.search.proofs.Leaves.{shorter, longer, not_long, premise_dereliction, premise_contraction, premise_weakening}
 use native.Mathlib.Omega.{arith}
-use borrow.Author.Rules.{rules}
 use Rattle.search.proofs.plan.premise.Goals as goal
 
 pub pushed-requires : goal.pushed-requires

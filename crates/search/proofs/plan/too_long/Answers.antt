@@ -1,6 +1,5 @@
 use Rattle.search.proofs.Leaves.{long_other}
 use Rattle.zones.specs.ZonesLaws.{linears_length, unrestricteds_length}
-use borrow.Author.Rules.{rules}
 use Rattle.search.proofs.plan.too_long.Goals as goal
 
 pub returns-in-Contraction : goal.returns-in-Contraction

@@ -1,4 +1,3 @@
-use borrow.Author.Rules.{rules}
 use Rattle.vakelumba.specs.ProvedLaws.{found_said, nothing_said, refused_said}
 use Rattle.vakelumba.proofs.proved.asked.Goals as goal
 

@@ -1,4 +1,3 @@
-use borrow.Author.Rules.{rules}
 use Rattle.vakelumba.specs.SaysLaws.{refusal_is}
 use Rattle.vakelumba.proofs.said.refused.Goals as goal
 

@@ -1,5 +1,4 @@
 use mathlib.Core.Path.{sym, ap, ◌∙◌}
-use borrow.Author.Rules.{rules}
 use Rattle.vakelumba.specs.Says.{of_measured}
 use Rattle.vakelumba.proofs.said.said_measured.Goals as goal
 

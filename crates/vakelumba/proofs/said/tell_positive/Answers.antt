@@ -1,4 +1,3 @@
-use borrow.Author.Rules.{rules}
 use Rattle.vakelumba.specs.SaysLaws.{bit_said}
 use Rattle.vakelumba.proofs.said.tell_positive.Goals as goal
 

@@ -1,4 +1,3 @@
-use borrow.Author.Rules.{rules}
 use Rattle.wire.specs.Read.{read_tree}
 use Rattle.vakelumba.specs.JudgedLaws.{judged_strict, judged_shape}
 use Rattle.vakelumba.proofs.verdict.judged.Goals as goal

@@ -1,4 +1,3 @@
-use borrow.Author.Rules.{rules}
 use Rattle.vakelumba.specs.JudgedLaws.{accepted_is, refused_is, invalid_is, count_is, mismatch_is}
 use Rattle.vakelumba.proofs.verdict.verdict_of.Goals as goal
 

@@ -1,5 +1,4 @@
 use native.Mathlib.Omega.{arith}
-use borrow.Author.Rules.{rules}
 use Rattle.zones.specs.ZonesLaws.{linears_length, unrestricteds_length}
 use Rattle.zones.proofs.Zones.count.Goals as goal
 

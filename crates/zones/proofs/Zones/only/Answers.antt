@@ -1,4 +1,3 @@
-use borrow.Author.Rules.{rules}
 use Rattle.zones.proofs.Steps.{made_only}
 use Rattle.zones.proofs.Zones.only.Goals as goal
 

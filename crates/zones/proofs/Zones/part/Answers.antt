@@ -1,8 +1,7 @@
-use mathlib.Core.Path.{◌≡◌, refl}
-use Prim.Native.Nat.{◌+◌, ◌-◌, ◌<◌}
+use mathlib.Core.Path.{refl}
+use Prim.Native.Nat.{◌+◌, ◌<◌}
 use native.Mathlib.Omega.{arith}
-use borrow.Author.Rules.{rules}
-use Rattle.zones.proofs.Steps.{Keeping, keeping_start, keeping_step, bit_le, past_le, made_split}
+use Rattle.zones.proofs.Steps.{keeping_start, keeping_step, bit_le, past_le, made_split}
 use Rattle.zones.proofs.Zones.part.Goals as goal
 
 from_low : (c : goal.After-skipped) → c.loop-k.k + c.skipped.result < 31

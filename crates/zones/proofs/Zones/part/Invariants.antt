@@ -1,8 +1,6 @@
-use mathlib.Core.Path.{◌≡◌, refl}
-use Prim.Native.Nat.{◌+◌, ◌-◌, ◌<◌}
-use native.Mathlib.Omega.{arith}
-use borrow.Author.Rules.{rules}
-use Rattle.zones.proofs.Steps.{Keeping, keeping_start, keeping_step, bit_le, past_le, made_split}
+use mathlib.Core.Path.{◌≡◌}
+use Prim.Native.Nat.{◌-◌}
+use Rattle.zones.proofs.Steps.{Keeping}
 use Rattle.zones.proofs.Zones.part.Given as goal
 
 abbrev pub invariant-loop-k : goal.invariant-loop-k

@@ -1,4 +1,3 @@
-use borrow.Author.Rules.{rules}
 use Rattle.zones.proofs.Steps.{made_pushed_unrestricted}
 use Rattle.zones.proofs.Zones.pushed_unrestricted.Goals as goal
 

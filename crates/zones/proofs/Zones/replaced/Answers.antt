@@ -1,4 +1,3 @@
-use borrow.Author.Rules.{rules}
 use Rattle.zones.proofs.Steps.{made_replaced}
 use Rattle.zones.proofs.Zones.replaced.Goals as goal
 

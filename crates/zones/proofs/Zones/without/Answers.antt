@@ -1,4 +1,3 @@
-use borrow.Author.Rules.{rules}
 use Rattle.zones.proofs.Steps.{made_without}
 use Rattle.zones.proofs.Zones.without.Goals as goal
 

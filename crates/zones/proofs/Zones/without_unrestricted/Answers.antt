@@ -1,4 +1,3 @@
-use borrow.Author.Rules.{rules}
 use Rattle.zones.proofs.Steps.{made_without_unrestricted}
 use Rattle.zones.proofs.Zones.without_unrestricted.Goals as goal
 
