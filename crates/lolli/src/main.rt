@@ -2,6 +2,7 @@
 #![tactic(auto)]
 
 ghost use Rattle.std.specs.Prelude.{◌≡◌, ◌≤◌, IfOk, length};
+ghost use Rattle.std.specs.Counts.{IsPrefixLen};
 ghost use Rattle.tree.specs.Places.{NodeFound};
 
 use formula::Written;
@@ -15,7 +16,7 @@ const DEPTH: usize = 32;
 
 const BUDGET: usize = 16384;
 
-// A message has at most 65,538 bytes. So what has as many bytes as this is too long for a question, and is refused alike whatever comes behind it.
+// A message has at most 65,538 bytes. So what fills this buffer is too long for a question, and is refused alike whatever comes behind it.
 const MESSAGE: usize = 65539;
 
 // Five times as many. No formula's text is longer: a sign and the unit behind it are two bytes, and at most nine of the text, as `( -o bot)`.
@@ -202,17 +203,26 @@ fn message() -> [u8; MESSAGE]
     [0; MESSAGE]
 }
 
-// Standard input, up to as many bytes as are too many for a question.
-fn read_question(rt: &(impl Input + AllocGlobal)) -> io::Result<Vec<u8>> {
-    let mut question = Vec::new(rt.alloc());
-    rt.reader().take(MESSAGE as u64).read_to_end(&mut question)?;
-    Ok(question)
+// The input's next bytes, to the front of `buf`, and how many there were: fewer than `buf` holds only where the input ends.
+fn read_full(input: &mut impl Read, buf: &mut [u8]) -> io::Result<usize>
+    ensures { IfOk result (λ n. IsPrefixLen n buf.new) }
+{
+    let mut done = 0;
+    for _ in 0..buf.len() {
+        let n = input.read(&mut buf[done..])?;
+        if n == 0 {
+            return Ok(done);
+        }
+        done += n;
+    }
+    Ok(done)
 }
 
 fn main(rt: HostRuntime) -> io::Result<()> {
-    let question = read_question(&rt)?;
+    let mut question = message();
+    let n = read_full(&mut rt.reader(), &mut question)?;
     let mut tree = message();
-    match asked(&question, &mut tree) {
+    match asked(&question[..n], &mut tree) {
         Answer::Found(_, c) => {
             put_answer(&rt, 0, c)?;
             put_nodes(&rt, &tree)

@@ -1,5 +1,4 @@
--- Steps of asking a memory that was tested before: a number below the count is of a held formula, an implication is one where its parts are, and a sequent of one held formula stands in the memory.
--- Assumes nothing.
+-- Steps of asking a memory that was tested before: a number below the count is of a held formula, and a sequent of one held formula stands in the memory. Assumes nothing.
 use Rattle.std.proofs.Common.{ap, List, ℕ, ◌+◌, ◌<◌, arith, get_or, length}
 use Rattle.zones.specs.declared.Zones.{Zones}
 use Rattle.zones.specs.Zones.{Empty, Made, pushed}
