@@ -133,12 +133,25 @@ def write(p, old, new):
             f.write(new)
 
 
+def when(code):
+    """Today's library has an operator of its own called `if◌then◌else◌`: the search's choice is called `when◌then◌else◌`."""
+    return re.sub(r"(?<![\w'◌.-])if(?= )", "when", code.replace("if◌then◌else◌", "when◌then◌else◌"))
+
+
+def in_code(f, text):
+    """`text` with f applied to each line before its comment."""
+    cut = lambda line: re.search(r"(?<!\S)--(?!\S)", line)
+    return "\n".join(f(l[: m.start()]) + l[m.start() :] if (m := cut(l)) else f(l) for l in text.split("\n"))
+
+
 def main():
     table = {n: spelled(n) for n in declared()}
     table = {a: b for a, b in table.items() if a != b}
     for p in texts(".antt", ".rt"):
         text = re.sub(r"\bIff·(\w+)", r"Iff.\1", read(p))
         text = re.sub(r"use Rattle\.std\.proofs\.Math\.Logic\.\{(?:Iff\.\w+(?:, )?)+\}", "use mathlib.Core.Logic.Iff", text)
+        if p.endswith(".antt"):
+            text = in_code(when, text)
         code = quiet(text, p)
         kit, modules = theirs(code)
         new = turned(text, code, kit, modules, table)
@@ -149,6 +162,7 @@ def main():
         for line in text.split("\n"):
             if re.match(r"old:|new:", line):
                 line = turned(line, line, set(), set(), table)
+                line = line if "file: src" in text else when(line)
                 # what port.py turned in the text: a tight projection, a plain prime, names that the kit has too
                 line = re.sub(r" \.(?=[a-z«])", ".", line.replace("′", "'"))
                 line = re.sub(r"\(([a-z_]+(?:\.[a-z_]+)+)\)", r"\1", line)

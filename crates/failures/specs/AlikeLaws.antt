@@ -10,7 +10,7 @@ use Rattle.logic.specs.Legal.{Same, plain}
 use Rattle.logic.proofs.SameLaws.{same_of, same_sym, same_trans}
 use Rattle.logic.specs.Answer.{failures_full}
 use Rattle.logic.specs.Limits.{Limit, at_most, exceeds}
-use Rattle.logic.specs.Outcome.{State, nothing, refused, with_failure, record_failure, if◌then◌else◌}
+use Rattle.logic.specs.Outcome.{State, nothing, refused, with_failure, record_failure, when◌then◌else◌}
 use Rattle.failures.specs.Alike.{Alike, none, more}
 
 -- an equivalence
@@ -74,13 +74,13 @@ contains_alike (more s a) t = ap₂ (λ (b rest : Bool). elim b as (λ _. Bool) 
 -- `record_failure`: a key that is known changes nothing, one that wants room and has none is refused, and else it stands last
 module _ (s : State) (k : Key) where
   pub record_known : (limit : Limit) → contains s.memory.failures k ≡ true → record_failure limit k s ≡ (nothing, s)
-  unfolding record_failure if◌then◌else◌
+  unfolding record_failure when◌then◌else◌
   record_known limit e = rw e
 
   pub record_full : {most : ℕ} → contains s.memory.failures k ≡ false → most ≤ length s.memory.failures → record_failure (at_most most) k s ≡ (refused failures_full, s)
-  unfolding record_failure if◌then◌else◌ exceeds
+  unfolding record_failure when◌then◌else◌ exceeds
   record_full {most} e h = rw (e, lt-ltb most (suc (length s.memory.failures)) (omega arith))
 
   pub record_new : {most : ℕ} → contains s.memory.failures k ≡ false → length s.memory.failures < most → record_failure (at_most most) k s ≡ (nothing, with_failure k s)
-  unfolding record_failure if◌then◌else◌ exceeds
+  unfolding record_failure when◌then◌else◌ exceeds
   record_new {most} e h = rw (e, le-ltb most (suc (length s.memory.failures)) h)

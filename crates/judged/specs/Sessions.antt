@@ -9,7 +9,7 @@ use Rattle.logic.specs.Zone.{total}
 use Rattle.logic.specs.Key.{sequent_key, without, same_bag, contains}
 use Rattle.logic.specs.Held.{enter, enter_all, enter_question}
 use Rattle.logic.specs.Limits.{exceeds}
-use Rattle.logic.specs.Outcome.{if◌then◌else◌, ◌or_else◌, ◌if_found◌, visited, hit, record_failure, made}
+use Rattle.logic.specs.Outcome.{when◌then◌else◌, ◌or_else◌, ◌if_found◌, visited, hit, record_failure, made}
 use Rattle.logic.specs.Search.{from_one, from_two, tensor_masks, prove_focused, try_axiom, each}
 use Rattle.logic.specs.Search.{try_dereliction, try_contraction, try_weakening, prove_sync, async_from}
 use Rattle.logic.specs.Search.{unless_empty, prove_async, entered, remembered, lollis, visit, prove_with_depth, ask}
@@ -39,7 +39,7 @@ rows_0 =
     ∷ []
 
 pub judged_0 : all judge_session rows_0 ≡ true
-unfolding rows_0 negate is_positive same among to_one_sided premise_count left_of right_of total sequent_key without same_bag contains enter enter_all enter_question exceeds if◌then◌else◌ ◌or_else◌ ◌if_found◌ visited hit record_failure made from_one from_two tensor_masks prove_focused try_axiom each try_dereliction try_contraction try_weakening prove_sync async_from unless_empty prove_async entered remembered lollis visit prove_with_depth ask write_formula write_formulas write_zone message write_rule write_node write_tree ◌then◌ entry read_byte read_two read_parts read_formula read_formulas read_bytes zone_bytes at_end read_message read_question same_bytes all recorded judge_asked judge_session
+unfolding rows_0 negate is_positive same among to_one_sided premise_count left_of right_of total sequent_key without same_bag contains enter enter_all enter_question exceeds when◌then◌else◌ ◌or_else◌ ◌if_found◌ visited hit record_failure made from_one from_two tensor_masks prove_focused try_axiom each try_dereliction try_contraction try_weakening prove_sync async_from unless_empty prove_async entered remembered lollis visit prove_with_depth ask write_formula write_formulas write_zone message write_rule write_node write_tree ◌then◌ entry read_byte read_two read_parts read_formula read_formulas read_bytes zone_bytes at_end read_message read_question same_bytes all recorded judge_asked judge_session
 judged_0 = refl
 
 pub rows_1 : List SessionRow
@@ -62,7 +62,7 @@ rows_1 =
     ∷ []
 
 pub judged_1 : all judge_session rows_1 ≡ true
-unfolding rows_1 negate is_positive same among to_one_sided premise_count left_of right_of total sequent_key without same_bag contains enter enter_all enter_question exceeds if◌then◌else◌ ◌or_else◌ ◌if_found◌ visited hit record_failure made from_one from_two tensor_masks prove_focused try_axiom each try_dereliction try_contraction try_weakening prove_sync async_from unless_empty prove_async entered remembered lollis visit prove_with_depth ask write_formula write_formulas write_zone message write_rule write_node write_tree ◌then◌ entry read_byte read_two read_parts read_formula read_formulas read_bytes zone_bytes at_end read_message read_question same_bytes all recorded judge_asked judge_session
+unfolding rows_1 negate is_positive same among to_one_sided premise_count left_of right_of total sequent_key without same_bag contains enter enter_all enter_question exceeds when◌then◌else◌ ◌or_else◌ ◌if_found◌ visited hit record_failure made from_one from_two tensor_masks prove_focused try_axiom each try_dereliction try_contraction try_weakening prove_sync async_from unless_empty prove_async entered remembered lollis visit prove_with_depth ask write_formula write_formulas write_zone message write_rule write_node write_tree ◌then◌ entry read_byte read_two read_parts read_formula read_formulas read_bytes zone_bytes at_end read_message read_question same_bytes all recorded judge_asked judge_session
 judged_1 = refl
 
 pub rows_2 : List SessionRow
@@ -85,7 +85,7 @@ rows_2 =
     ∷ []
 
 pub judged_2 : all judge_session rows_2 ≡ true
-unfolding rows_2 negate is_positive same among to_one_sided premise_count left_of right_of total sequent_key without same_bag contains enter enter_all enter_question exceeds if◌then◌else◌ ◌or_else◌ ◌if_found◌ visited hit record_failure made from_one from_two tensor_masks prove_focused try_axiom each try_dereliction try_contraction try_weakening prove_sync async_from unless_empty prove_async entered remembered lollis visit prove_with_depth ask write_formula write_formulas write_zone message write_rule write_node write_tree ◌then◌ entry read_byte read_two read_parts read_formula read_formulas read_bytes zone_bytes at_end read_message read_question same_bytes all recorded judge_asked judge_session
+unfolding rows_2 negate is_positive same among to_one_sided premise_count left_of right_of total sequent_key without same_bag contains enter enter_all enter_question exceeds when◌then◌else◌ ◌or_else◌ ◌if_found◌ visited hit record_failure made from_one from_two tensor_masks prove_focused try_axiom each try_dereliction try_contraction try_weakening prove_sync async_from unless_empty prove_async entered remembered lollis visit prove_with_depth ask write_formula write_formulas write_zone message write_rule write_node write_tree ◌then◌ entry read_byte read_two read_parts read_formula read_formulas read_bytes zone_bytes at_end read_message read_question same_bytes all recorded judge_asked judge_session
 judged_2 = refl
 
 pub rows_3 : List SessionRow
@@ -108,7 +108,7 @@ rows_3 =
     ∷ []
 
 pub judged_3 : all judge_session rows_3 ≡ true
-unfolding rows_3 negate is_positive same among to_one_sided premise_count left_of right_of total sequent_key without same_bag contains enter enter_all enter_question exceeds if◌then◌else◌ ◌or_else◌ ◌if_found◌ visited hit record_failure made from_one from_two tensor_masks prove_focused try_axiom each try_dereliction try_contraction try_weakening prove_sync async_from unless_empty prove_async entered remembered lollis visit prove_with_depth ask write_formula write_formulas write_zone message write_rule write_node write_tree ◌then◌ entry read_byte read_two read_parts read_formula read_formulas read_bytes zone_bytes at_end read_message read_question same_bytes all recorded judge_asked judge_session
+unfolding rows_3 negate is_positive same among to_one_sided premise_count left_of right_of total sequent_key without same_bag contains enter enter_all enter_question exceeds when◌then◌else◌ ◌or_else◌ ◌if_found◌ visited hit record_failure made from_one from_two tensor_masks prove_focused try_axiom each try_dereliction try_contraction try_weakening prove_sync async_from unless_empty prove_async entered remembered lollis visit prove_with_depth ask write_formula write_formulas write_zone message write_rule write_node write_tree ◌then◌ entry read_byte read_two read_parts read_formula read_formulas read_bytes zone_bytes at_end read_message read_question same_bytes all recorded judge_asked judge_session
 judged_3 = refl
 
 pub rows_4 : List SessionRow
@@ -131,7 +131,7 @@ rows_4 =
     ∷ []
 
 pub judged_4 : all judge_session rows_4 ≡ true
-unfolding rows_4 negate is_positive same among to_one_sided premise_count left_of right_of total sequent_key without same_bag contains enter enter_all enter_question exceeds if◌then◌else◌ ◌or_else◌ ◌if_found◌ visited hit record_failure made from_one from_two tensor_masks prove_focused try_axiom each try_dereliction try_contraction try_weakening prove_sync async_from unless_empty prove_async entered remembered lollis visit prove_with_depth ask write_formula write_formulas write_zone message write_rule write_node write_tree ◌then◌ entry read_byte read_two read_parts read_formula read_formulas read_bytes zone_bytes at_end read_message read_question same_bytes all recorded judge_asked judge_session
+unfolding rows_4 negate is_positive same among to_one_sided premise_count left_of right_of total sequent_key without same_bag contains enter enter_all enter_question exceeds when◌then◌else◌ ◌or_else◌ ◌if_found◌ visited hit record_failure made from_one from_two tensor_masks prove_focused try_axiom each try_dereliction try_contraction try_weakening prove_sync async_from unless_empty prove_async entered remembered lollis visit prove_with_depth ask write_formula write_formulas write_zone message write_rule write_node write_tree ◌then◌ entry read_byte read_two read_parts read_formula read_formulas read_bytes zone_bytes at_end read_message read_question same_bytes all recorded judge_asked judge_session
 judged_4 = refl
 
 pub rows_5 : List SessionRow
@@ -154,7 +154,7 @@ rows_5 =
     ∷ []
 
 pub judged_5 : all judge_session rows_5 ≡ true
-unfolding rows_5 negate is_positive same among to_one_sided premise_count left_of right_of total sequent_key without same_bag contains enter enter_all enter_question exceeds if◌then◌else◌ ◌or_else◌ ◌if_found◌ visited hit record_failure made from_one from_two tensor_masks prove_focused try_axiom each try_dereliction try_contraction try_weakening prove_sync async_from unless_empty prove_async entered remembered lollis visit prove_with_depth ask write_formula write_formulas write_zone message write_rule write_node write_tree ◌then◌ entry read_byte read_two read_parts read_formula read_formulas read_bytes zone_bytes at_end read_message read_question same_bytes all recorded judge_asked judge_session
+unfolding rows_5 negate is_positive same among to_one_sided premise_count left_of right_of total sequent_key without same_bag contains enter enter_all enter_question exceeds when◌then◌else◌ ◌or_else◌ ◌if_found◌ visited hit record_failure made from_one from_two tensor_masks prove_focused try_axiom each try_dereliction try_contraction try_weakening prove_sync async_from unless_empty prove_async entered remembered lollis visit prove_with_depth ask write_formula write_formulas write_zone message write_rule write_node write_tree ◌then◌ entry read_byte read_two read_parts read_formula read_formulas read_bytes zone_bytes at_end read_message read_question same_bytes all recorded judge_asked judge_session
 judged_5 = refl
 
 pub rows_6 : List SessionRow
@@ -177,7 +177,7 @@ rows_6 =
     ∷ []
 
 pub judged_6 : all judge_session rows_6 ≡ true
-unfolding rows_6 negate is_positive same among to_one_sided premise_count left_of right_of total sequent_key without same_bag contains enter enter_all enter_question exceeds if◌then◌else◌ ◌or_else◌ ◌if_found◌ visited hit record_failure made from_one from_two tensor_masks prove_focused try_axiom each try_dereliction try_contraction try_weakening prove_sync async_from unless_empty prove_async entered remembered lollis visit prove_with_depth ask write_formula write_formulas write_zone message write_rule write_node write_tree ◌then◌ entry read_byte read_two read_parts read_formula read_formulas read_bytes zone_bytes at_end read_message read_question same_bytes all recorded judge_asked judge_session
+unfolding rows_6 negate is_positive same among to_one_sided premise_count left_of right_of total sequent_key without same_bag contains enter enter_all enter_question exceeds when◌then◌else◌ ◌or_else◌ ◌if_found◌ visited hit record_failure made from_one from_two tensor_masks prove_focused try_axiom each try_dereliction try_contraction try_weakening prove_sync async_from unless_empty prove_async entered remembered lollis visit prove_with_depth ask write_formula write_formulas write_zone message write_rule write_node write_tree ◌then◌ entry read_byte read_two read_parts read_formula read_formulas read_bytes zone_bytes at_end read_message read_question same_bytes all recorded judge_asked judge_session
 judged_6 = refl
 
 pub rows_7 : List SessionRow
@@ -200,7 +200,7 @@ rows_7 =
     ∷ []
 
 pub judged_7 : all judge_session rows_7 ≡ true
-unfolding rows_7 negate is_positive same among to_one_sided premise_count left_of right_of total sequent_key without same_bag contains enter enter_all enter_question exceeds if◌then◌else◌ ◌or_else◌ ◌if_found◌ visited hit record_failure made from_one from_two tensor_masks prove_focused try_axiom each try_dereliction try_contraction try_weakening prove_sync async_from unless_empty prove_async entered remembered lollis visit prove_with_depth ask write_formula write_formulas write_zone message write_rule write_node write_tree ◌then◌ entry read_byte read_two read_parts read_formula read_formulas read_bytes zone_bytes at_end read_message read_question same_bytes all recorded judge_asked judge_session
+unfolding rows_7 negate is_positive same among to_one_sided premise_count left_of right_of total sequent_key without same_bag contains enter enter_all enter_question exceeds when◌then◌else◌ ◌or_else◌ ◌if_found◌ visited hit record_failure made from_one from_two tensor_masks prove_focused try_axiom each try_dereliction try_contraction try_weakening prove_sync async_from unless_empty prove_async entered remembered lollis visit prove_with_depth ask write_formula write_formulas write_zone message write_rule write_node write_tree ◌then◌ entry read_byte read_two read_parts read_formula read_formulas read_bytes zone_bytes at_end read_message read_question same_bytes all recorded judge_asked judge_session
 judged_7 = refl
 
 pub rows_8 : List SessionRow
@@ -223,7 +223,7 @@ rows_8 =
     ∷ []
 
 pub judged_8 : all judge_session rows_8 ≡ true
-unfolding rows_8 negate is_positive same among to_one_sided premise_count left_of right_of total sequent_key without same_bag contains enter enter_all enter_question exceeds if◌then◌else◌ ◌or_else◌ ◌if_found◌ visited hit record_failure made from_one from_two tensor_masks prove_focused try_axiom each try_dereliction try_contraction try_weakening prove_sync async_from unless_empty prove_async entered remembered lollis visit prove_with_depth ask write_formula write_formulas write_zone message write_rule write_node write_tree ◌then◌ entry read_byte read_two read_parts read_formula read_formulas read_bytes zone_bytes at_end read_message read_question same_bytes all recorded judge_asked judge_session
+unfolding rows_8 negate is_positive same among to_one_sided premise_count left_of right_of total sequent_key without same_bag contains enter enter_all enter_question exceeds when◌then◌else◌ ◌or_else◌ ◌if_found◌ visited hit record_failure made from_one from_two tensor_masks prove_focused try_axiom each try_dereliction try_contraction try_weakening prove_sync async_from unless_empty prove_async entered remembered lollis visit prove_with_depth ask write_formula write_formulas write_zone message write_rule write_node write_tree ◌then◌ entry read_byte read_two read_parts read_formula read_formulas read_bytes zone_bytes at_end read_message read_question same_bytes all recorded judge_asked judge_session
 judged_8 = refl
 
 pub rows_9 : List SessionRow
@@ -246,7 +246,7 @@ rows_9 =
     ∷ []
 
 pub judged_9 : all judge_session rows_9 ≡ true
-unfolding rows_9 negate is_positive same among to_one_sided premise_count left_of right_of total sequent_key without same_bag contains enter enter_all enter_question exceeds if◌then◌else◌ ◌or_else◌ ◌if_found◌ visited hit record_failure made from_one from_two tensor_masks prove_focused try_axiom each try_dereliction try_contraction try_weakening prove_sync async_from unless_empty prove_async entered remembered lollis visit prove_with_depth ask write_formula write_formulas write_zone message write_rule write_node write_tree ◌then◌ entry read_byte read_two read_parts read_formula read_formulas read_bytes zone_bytes at_end read_message read_question same_bytes all recorded judge_asked judge_session
+unfolding rows_9 negate is_positive same among to_one_sided premise_count left_of right_of total sequent_key without same_bag contains enter enter_all enter_question exceeds when◌then◌else◌ ◌or_else◌ ◌if_found◌ visited hit record_failure made from_one from_two tensor_masks prove_focused try_axiom each try_dereliction try_contraction try_weakening prove_sync async_from unless_empty prove_async entered remembered lollis visit prove_with_depth ask write_formula write_formulas write_zone message write_rule write_node write_tree ◌then◌ entry read_byte read_two read_parts read_formula read_formulas read_bytes zone_bytes at_end read_message read_question same_bytes all recorded judge_asked judge_session
 judged_9 = refl
 
 pub rows_10 : List SessionRow
@@ -259,5 +259,5 @@ rows_10 =
     ∷ []
 
 pub judged_10 : all judge_session rows_10 ≡ true
-unfolding rows_10 negate is_positive same among to_one_sided premise_count left_of right_of total sequent_key without same_bag contains enter enter_all enter_question exceeds if◌then◌else◌ ◌or_else◌ ◌if_found◌ visited hit record_failure made from_one from_two tensor_masks prove_focused try_axiom each try_dereliction try_contraction try_weakening prove_sync async_from unless_empty prove_async entered remembered lollis visit prove_with_depth ask write_formula write_formulas write_zone message write_rule write_node write_tree ◌then◌ entry read_byte read_two read_parts read_formula read_formulas read_bytes zone_bytes at_end read_message read_question same_bytes all recorded judge_asked judge_session
+unfolding rows_10 negate is_positive same among to_one_sided premise_count left_of right_of total sequent_key without same_bag contains enter enter_all enter_question exceeds when◌then◌else◌ ◌or_else◌ ◌if_found◌ visited hit record_failure made from_one from_two tensor_masks prove_focused try_axiom each try_dereliction try_contraction try_weakening prove_sync async_from unless_empty prove_async entered remembered lollis visit prove_with_depth ask write_formula write_formulas write_zone message write_rule write_node write_tree ◌then◌ entry read_byte read_two read_parts read_formula read_formulas read_bytes zone_bytes at_end read_message read_question same_bytes all recorded judge_asked judge_session
 judged_10 = refl

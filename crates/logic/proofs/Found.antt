@@ -25,7 +25,7 @@ use Rattle.logic.specs.Outcome.{
   start,
   Search,
   answer,
-  if◌then◌else◌,
+  when◌then◌else◌,
   or_next,
   ◌or_else◌,
   found_next,
@@ -98,8 +98,8 @@ pub record Meets (I : State → Type 0) (P : Tree → Type 0) (m : Search) : Typ
   pub at : (s : State) → I s → After I P (m s)
 
 -- either branch, at one state
-pub either_at : (Q : Outcome × State → Type 0) (b : Bool) (m n : Search) (s : State) → (b ≡ true → Q (m s)) → (b ≡ false → Q (n s)) → Q ((if b then m else n) s)
-unfolding if◌then◌else◌
+pub either_at : (Q : Outcome × State → Type 0) (b : Bool) (m n : Search) (s : State) → (b ≡ true → Q (m s)) → (b ≡ false → Q (n s)) → Q ((when b then m else n) s)
+unfolding when◌then◌else◌
 either_at Q true m n s h k = h refl
 either_at Q false m n s h k = k refl
 

@@ -21,7 +21,7 @@ use Rattle.logic.specs.Outcome.{
   Search,
   Ended,
   answer,
-  if◌then◌else◌,
+  when◌then◌else◌,
   or_next,
   ◌or_else◌,
   found_next,
@@ -66,17 +66,17 @@ agrees_two : (r : Rule) (q : Sequent) {m m' n n' : Search} → Agrees m m' → A
 unfolding from_two
 agrees_two r q h k = agrees_if h λ t. agrees_if k λ u. agrees_refl _
 
-agrees_either : (b : Bool) {m m' n n' : Search} → Agrees m m' → Agrees n n' → Agrees (if b then m else n) (if b then m' else n')
-unfolding if◌then◌else◌
+agrees_either : (b : Bool) {m m' n n' : Search} → Agrees m m' → Agrees n n' → Agrees (when b then m else n) (when b then m' else n')
+unfolding when◌then◌else◌
 agrees_either true h k = h
 agrees_either false h k = k
 
 -- a limit's test: met, it refuses; off, it is passed
-past_limit : (most : Limit) (n : ℕ) (r : Refusal) (m m' : Search) (s : State) → (Ended (m s).0 → m' s ≡ m s) → Ended ((if exceeds most n then answer (refused r) else m) s).0 → (if exceeds no_limit n then answer (refused r) else m') s ≡ (if exceeds most n then answer (refused r) else m) s
-unfolding if◌then◌else◌ exceeds
+past_limit : (most : Limit) (n : ℕ) (r : Refusal) (m m' : Search) (s : State) → (Ended (m s).0 → m' s ≡ m s) → Ended ((when exceeds most n then answer (refused r) else m) s).0 → (when exceeds no_limit n then answer (refused r) else m') s ≡ (when exceeds most n then answer (refused r) else m) s
+unfolding when◌then◌else◌ exceeds
 past_limit most n r m m' s h = go (exceeds most n)
   where
-    go : (b : Bool) → Ended ((if b then answer (refused r) else m) s).0 → (if exceeds no_limit n then answer (refused r) else m') s ≡ (if b then answer (refused r) else m) s
+    go : (b : Bool) → Ended ((when b then answer (refused r) else m) s).0 → (when exceeds no_limit n then answer (refused r) else m') s ≡ (when b then answer (refused r) else m) s
     go true e = absurd e
     go false e = h e
 

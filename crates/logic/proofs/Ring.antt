@@ -10,7 +10,7 @@ use Rattle.logic.specs.Sequent.{Sequent}
 use Rattle.logic.proofs.ZoneLaws.{snoc, total_at}
 use Rattle.logic.specs.Key.{Key, sequent_key, contains}
 use Rattle.logic.specs.Limits.{no_limit, exceeds}
-use Rattle.logic.specs.Outcome.{nothing, State, Search, answer, if◌then◌else◌, ◌or_else◌, visited, hit, with_failure, record_failure, made}
+use Rattle.logic.specs.Outcome.{nothing, State, Search, answer, when◌then◌else◌, ◌or_else◌, visited, hit, with_failure, record_failure, made}
 use Rattle.logic.specs.Search.{Settings, unlimited, async_from, unless_empty, prove_async, entered, remembered, lolli_count, lollis, visit, prove_with_depth}
 
 module _ (settings : Settings) (deeper again again' : Sequent → Search) (q : Sequent) (agree : (p : Sequent) → lollis p.linear < lollis q.linear → again p ≡ again' p) where
@@ -84,29 +84,29 @@ module _ (settings : Settings) (left depth : ℕ) (q : Sequent) (s : State) wher
 
   -- a depth over the limit: the visit is counted, and the answer is no
   pub rust_over : prove_with_depth (unlimited settings) 0 depth q s ≡ (nothing, visited depth s)
-  unfolding entered exceeds if◌then◌else◌
+  unfolding entered exceeds when◌then◌else◌
   rust_over = ap (λ m. m s) (ring_over (unlimited settings) depth q)
 
   -- `use_cache` off
   pub rust_cache_off : settings.use_cache ≡ false → prove_with_depth (unlimited settings) (suc left) depth q s ≡ rust_async (visited depth s)
-  unfolding entered remembered exceeds if◌then◌else◌
-  rust_cache_off e = ap (λ m. m s) (ring (unlimited settings) left depth q) ∙ rw (e, if◌then◌else◌)
+  unfolding entered remembered exceeds when◌then◌else◌
+  rust_cache_off e = ap (λ m. m s) (ring (unlimited settings) left depth q) ∙ rw (e, when◌then◌else◌)
 
   -- `self.cache.contains(&key)`
   pub rust_hit : settings.use_cache ≡ true → contains s.memory.failures (sequent_key q) ≡ true → prove_with_depth (unlimited settings) (suc left) depth q s ≡ (nothing, hit (visited depth s))
-  unfolding entered remembered exceeds if◌then◌else◌ visited
-  rust_hit e h = ap (λ m. m s) (ring (unlimited settings) left depth q) ∙ rw (e, if◌then◌else◌, h, if◌then◌else◌)
+  unfolding entered remembered exceeds when◌then◌else◌ visited
+  rust_hit e h = ap (λ m. m s) (ring (unlimited settings) left depth q) ∙ rw (e, when◌then◌else◌, h, when◌then◌else◌)
 
   -- the search, and the insertion of its no
   pub rust_searched : settings.use_cache ≡ true → contains s.memory.failures (sequent_key q) ≡ false → prove_with_depth (unlimited settings) (suc left) depth q s ≡ (rust_async or_else record_failure no_limit (sequent_key q)) (visited depth s)
-  unfolding entered remembered exceeds if◌then◌else◌ visited
-  rust_searched e h = ap (λ m. m s) (ring (unlimited settings) left depth q) ∙ rw (e, if◌then◌else◌, h, if◌then◌else◌)
+  unfolding entered remembered exceeds when◌then◌else◌ visited
+  rust_searched e h = ap (λ m. m s) (ring (unlimited settings) left depth q) ∙ rw (e, when◌then◌else◌, h, when◌then◌else◌)
 
 -- `self.cache.insert(key)`: a key that is there already is not entered twice
 pub insert_known : (k : Key) (s : State) → contains s.memory.failures k ≡ true → record_failure no_limit k s ≡ (nothing, s)
-unfolding record_failure if◌then◌else◌
-insert_known k s e = rw (e, if◌then◌else◌)
+unfolding record_failure when◌then◌else◌
+insert_known k s e = rw (e, when◌then◌else◌)
 
 pub insert_new : (k : Key) (s : State) → contains s.memory.failures k ≡ false → record_failure no_limit k s ≡ (nothing, with_failure k s)
-unfolding record_failure if◌then◌else◌ exceeds
-insert_new k s e = rw (e, if◌then◌else◌)
+unfolding record_failure when◌then◌else◌ exceeds
+insert_new k s e = rw (e, when◌then◌else◌)

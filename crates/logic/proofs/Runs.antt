@@ -8,7 +8,7 @@ use Rattle.logic.specs.Zone.{total}
 use Rattle.logic.specs.Key.{sequent_key, without, same_bag, contains}
 use Rattle.logic.specs.Held.{enter, enter_all, enter_question}
 use Rattle.logic.specs.Limits.{exceeds}
-use Rattle.logic.specs.Outcome.{Outcome, found, nothing, State, if◌then◌else◌, ◌or_else◌, ◌if_found◌, visited, hit, record_failure, made, Memory}
+use Rattle.logic.specs.Outcome.{Outcome, found, nothing, State, when◌then◌else◌, ◌or_else◌, ◌if_found◌, visited, hit, record_failure, made, Memory}
 use Rattle.logic.specs.Search.{
   as_stated,
   from_one,
@@ -89,5 +89,5 @@ settled_rows =
     ∷ []
 
 pub settled : map (λ r. result r.0) settled_rows ≡ map (λ r. r.1) settled_rows
-unfolding result settled_rows ask to_one_sided enter_question enter_all prove_with_depth visit entered remembered prove_async async_from prove_sync each prove_focused try_axiom try_dereliction try_contraction try_weakening tensor_masks left_of right_of from_one from_two unless_empty if◌then◌else◌ among lollis total sequent_key contains same_bag without same is_positive negate ◌or_else◌ ◌if_found◌ visited hit record_failure enter made exceeds
+unfolding result settled_rows ask to_one_sided enter_question enter_all prove_with_depth visit entered remembered prove_async async_from prove_sync each prove_focused try_axiom try_dereliction try_contraction try_weakening tensor_masks left_of right_of from_one from_two unless_empty when◌then◌else◌ among lollis total sequent_key contains same_bag without same is_positive negate ◌or_else◌ ◌if_found◌ visited hit record_failure enter made exceeds
 settled = refl

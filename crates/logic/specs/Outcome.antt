@@ -47,13 +47,13 @@ Search = State → Outcome × State
 
 infixr 20 ◌or_else◌
 infixr 15 ◌if_found◌
-infix 10 if◌then◌else◌
+infix 10 when◌then◌else◌
 abbrev pub answer : Outcome → Search
 answer o s = (o, s)
 
-unfoldable pub if◌then◌else◌ : Bool → Search → Search → Search
-if true then m else n = m
-if false then m else n = n
+unfoldable pub when◌then◌else◌ : Bool → Search → Search → Search
+when true then m else n = m
+when false then m else n = n
 
 -- `if let Some(proof) = m { return Some(proof); } n`: a refusal is passed up
 abbrev pub or_next : Outcome → State → Search → Outcome × State
@@ -92,8 +92,8 @@ with_held fs s = with_memory record { held = fs; failures = s.memory.failures } 
 -- `self.cache.insert(key)`: a new failure wants room
 unfoldable pub record_failure : Limit → Key → Search
 record_failure most k s =
-    (if contains s.memory.failures k then answer nothing else
-    if exceeds most (suc (length s.memory.failures)) then answer (refused failures_full) else
+    (when contains s.memory.failures k then answer nothing else
+    when exceeds most (suc (length s.memory.failures)) then answer (refused failures_full) else
     λ s. (nothing, with_failure k s))
     s
 
@@ -101,4 +101,4 @@ record_failure most k s =
 unfoldable pub made : Limit → Formula → Search → Search
 made most f m s =
     let fs = enter f s.memory.held in
-    (if exceeds most (length fs) then answer (refused held_full) else λ s. m (with_held fs s)) s
+    (when exceeds most (length fs) then answer (refused held_full) else λ s. m (with_held fs s)) s

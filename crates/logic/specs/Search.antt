@@ -11,7 +11,7 @@ use Rattle.logic.specs.Zone.{total}
 use Rattle.logic.specs.Key.{sequent_key, contains}
 use Rattle.logic.specs.Held.{enter_question}
 use Rattle.logic.specs.Limits.{Limits, exceeds, off, stated}
-use Rattle.logic.specs.Outcome.{Outcome, found, nothing, refused, State, start, Search, answer, if◌then◌else◌, ◌or_else◌, ◌if_found◌, visited, hit, with_held, record_failure, made, Memory}
+use Rattle.logic.specs.Outcome.{Outcome, found, nothing, refused, State, start, Search, answer, when◌then◌else◌, ◌or_else◌, ◌if_found◌, visited, hit, with_held, record_failure, made, Memory}
 
 -- a rule with one premise and one with two: the premise is searched, and the node put below it
 unfoldable pub from_one : Rule → Sequent → Search → Search
@@ -21,7 +21,7 @@ unfoldable pub from_two : Rule → Sequent → Search → Search → Search
 from_two r q p p' = p if_found λ t. p' if_found λ t'. answer (found (node r q (t ▹ t' ▹ ∅)))
 
 abbrev pub if_so : Bool → Search → Search
-if_so b m = if b then m else answer nothing
+if_so b m = when b then m else answer nothing
 
 -- `for i in 0..zone.len() { if let Some(proof) = body(i) { return Some(proof); } } None`, from the place between `before` and what is left
 unfoldable pub each : (List Formula → Formula → List Formula → Search) → List Formula → List Formula → Search
@@ -164,16 +164,16 @@ module _ (settings : Settings) where
   -- the head of `prove_with_depth`: a sequent that is too long, a spent budget; then the visit is counted
   unfoldable pub entered : ℕ → Sequent → Search → Search
   entered depth q body s =
-      (if exceeds settings.limits.formulas (count q) then answer (refused too_many) else
-      if exceeds settings.limits.visits (suc s.explored) then answer (refused budget_spent) else
+      (when exceeds settings.limits.formulas (count q) then answer (refused too_many) else
+      when exceeds settings.limits.visits (suc s.explored) then answer (refused budget_spent) else
       λ s. body (visited depth s))
       s
 
   -- the cache around `prove_async`
   unfoldable pub remembered : Sequent → Search → Search
   remembered q body s =
-      (if settings.use_cache
-      then (if contains s.memory.failures (sequent_key q) then (λ s. (nothing, hit s)) else body or_else record_failure settings.limits.failures (sequent_key q))
+      (when settings.use_cache
+      then (when contains s.memory.failures (sequent_key q) then (λ s. (nothing, hit s)) else body or_else record_failure settings.limits.failures (sequent_key q))
       else body)
       s
 
@@ -199,7 +199,7 @@ module _ (settings : Settings) where
   ask limit question memory =
       let q = to_one_sided question in
       let fs = enter_question question memory.held in
-      (if exceeds settings.limits.formulas (count q) then answer (refused too_many) else
-      if exceeds settings.limits.held (length fs) then answer (refused held_full) else
+      (when exceeds settings.limits.formulas (count q) then answer (refused too_many) else
+      when exceeds settings.limits.held (length fs) then answer (refused held_full) else
       λ s. prove_with_depth (suc limit) 0 q (with_held fs s))
       (start memory)

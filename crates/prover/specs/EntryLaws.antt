@@ -10,7 +10,7 @@ use Rattle.logic.specs.Sequent.{Question, count, to_one_sided}
 use Rattle.logic.specs.Answer as answer
 use Rattle.logic.specs.Held.{enter_question}
 use Rattle.logic.specs.Limits.{exceeds}
-use Rattle.logic.specs.Outcome.{refused, start, if◌then◌else◌, Memory}
+use Rattle.logic.specs.Outcome.{refused, start, when◌then◌else◌, Memory}
 use Rattle.logic.specs.Search.{ask}
 use Rattle.wire.specs.Read as wire
 use Rattle.wire.specs.Fits.{Bytes}
@@ -49,7 +49,7 @@ module _ {s : List ℕ} (bytes : Bytes s) {q : Question} {rest : List ℕ} (e : 
 
 -- with no room for its formulas it is refused, and nothing has changed
 searched_over : (call : Call) (q : Question) → count (to_one_sided q) ≤ 31 → 2048 < length (enter_question q (holds call.memory)) → searched call q ≡ (refused answer.held_full, start (meaning call.memory))
-unfolding ask exceeds if◌then◌else◌
+unfolding ask exceeds when◌then◌else◌
 searched_over call q few h = rw (le-ltb 31 (count (to_one_sided q)) few, lt-ltb 2048 (length (enter_question q (holds call.memory))) h) refl
 
 -- all is as it was

@@ -14,7 +14,7 @@ use Rattle.logic.proofs.FormulaLaws.{same_self}
 use Rattle.logic.specs.Sequent.{Sequent, ◌﹔◌}
 use Rattle.logic.specs.Tree.{Axiom, OneIntro, OfCourseIntro, PlusIntroLeft, PlusIntroRight, TensorIntro, node, ∅}
 use Rattle.logic.specs.Outcome as logic
-use Rattle.logic.specs.Outcome.{Search, ◌or_else◌, if◌then◌else◌}
+use Rattle.logic.specs.Outcome.{Search, ◌or_else◌, when◌then◌else◌}
 use Rattle.logic.specs.Search.{from_one, tensor_masks, prove_focused}
 use Rattle.zones.specs.declared.Zones.{Zones}
 use Rattle.zones.specs.Zones.{Made, remove, replace, replaced, only}
@@ -59,15 +59,15 @@ module _ (left depth : ℕ) {z : Zones} {far at : ℕ} {p : Prover} {c : Counter
   at_sign i e k a = of (ap (focused_at i) e ∙ k) a
 
   axiom_clause : (i name : ℕ) → among (NegAtom name) (remove i Γ) && eqb (length Γ) 2 ≡ true → focused_at i (Atom name) ≡ logic.answer (logic.found (node Axiom q₀ ∅))
-  unfolding prove_focused if◌then◌else◌
+  unfolding prove_focused when◌then◌else◌
   axiom_clause i name e = rw e
 
   one_clause : (i : ℕ) → length Γ ≡ 1 → focused_at i formula.One ≡ logic.answer (logic.found (node OneIntro q₀ ∅))
-  unfolding prove_focused if◌then◌else◌
+  unfolding prove_focused when◌then◌else◌
   one_clause i e = rw (eq-eqb (length Γ) 1 e)
 
   of_course_clause : (i : ℕ) (f : Formula) → length Γ ≡ 1 → focused_at i (formula.OfCourse f) ≡ from_one OfCourseIntro q₀ (deep (f ∷ [] ﹔ q₀.unrestricted))
-  unfolding prove_focused if◌then◌else◌
+  unfolding prove_focused when◌then◌else◌
   of_course_clause i f e = rw (eq-eqb (length Γ) 1 e)
 
   tensor_clause : (i : ℕ) (f g : Formula) → focused_at i (formula.Tensor f g) ≡ tensor_masks deep q₀ f g (remove i Γ) (2 ^ length (remove i Γ)) 0

@@ -15,7 +15,7 @@ use Rattle.logic.specs.Formula.{Formula, NegAtom, Atom, among}
 use Rattle.logic.proofs.FormulaLaws.{different_same}
 use Rattle.logic.specs.Sequent.{Sequent}
 use Rattle.logic.specs.Outcome as logic
-use Rattle.logic.specs.Outcome.{Search, if◌then◌else◌}
+use Rattle.logic.specs.Outcome.{Search, when◌then◌else◌}
 use Rattle.logic.specs.Search.{prove_focused}
 use Rattle.logic.specs.Built.{decomposable, Passed}
 use Rattle.logic.proofs.Found.{passed_snoc}
@@ -129,7 +129,7 @@ module _ (m : List ℕ) {z : Zones} (f : Fits z) (i : ℕ) (h : i < z.linear_len
   is_axiom name = among (NegAtom name) (remove i Γ) && eqb (length Γ) 2
 
   no_axiom : (name : ℕ) → linear_formula m z i ≡ Atom name → is_axiom name ≡ false → Unfocused m z i
-  no_axiom name e k = record { none = λ deeper. ap (λ (g : Formula). prove_focused deeper (sequent m z) (take i Γ) g (drop (suc i) Γ)) e ∙ unfold prove_focused if◌then◌else◌ in rw k }
+  no_axiom name e k = record { none = λ deeper. ap (λ (g : Formula). prove_focused deeper (sequent m z) (take i Γ) g (drop (suc i) Γ)) e ∙ unfold prove_focused when◌then◌else◌ in rw k }
 
   and_false : (b : Bool) → b && false ≡ false
   and_false true = refl
@@ -148,10 +148,10 @@ module _ (m : List ℕ) {z : Zones} (f : Fits z) (i : ℕ) (h : i < z.linear_len
 
   -- at a formula that must stand alone
   pub not_alone_one : linear_formula m z i ≡ formula.One → (z.linear_len ≡ 1 → ⊥) → Unfocused m z i
-  not_alone_one e k = record { none = λ deeper. ap (λ (g : Formula). prove_focused deeper (sequent m z) (take i Γ) g (drop (suc i) Γ)) e ∙ unfold prove_focused if◌then◌else◌ in rw (ne_eqb (length Γ) 1 (λ j. k (sym (linear_length m f) ∙ j))) }
+  not_alone_one e k = record { none = λ deeper. ap (λ (g : Formula). prove_focused deeper (sequent m z) (take i Γ) g (drop (suc i) Γ)) e ∙ unfold prove_focused when◌then◌else◌ in rw (ne_eqb (length Γ) 1 (λ j. k (sym (linear_length m f) ∙ j))) }
 
   pub not_alone_of_course : (a : Formula) → linear_formula m z i ≡ formula.OfCourse a → (z.linear_len ≡ 1 → ⊥) → Unfocused m z i
-  not_alone_of_course a e k = record { none = λ deeper. ap (λ (g : Formula). prove_focused deeper (sequent m z) (take i Γ) g (drop (suc i) Γ)) e ∙ unfold prove_focused if◌then◌else◌ in rw (ne_eqb (length Γ) 1 (λ j. k (sym (linear_length m f) ∙ j))) }
+  not_alone_of_course a e k = record { none = λ deeper. ap (λ (g : Formula). prove_focused deeper (sequent m z) (take i Γ) g (drop (suc i) Γ)) e ∙ unfold prove_focused when◌then◌else◌ in rw (ne_eqb (length Γ) 1 (λ j. k (sym (linear_length m f) ∙ j))) }
 
   -- at a formula that is focused on
   pub two_here : (sign : Formula → Formula → Formula) (a b : ℕ) → OfTwo m (get_or z.linear i 0) sign a b → Two sign m z i a b

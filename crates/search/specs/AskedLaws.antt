@@ -8,7 +8,7 @@ use Rattle.logic.specs.Tree.{Tree}
 use Rattle.logic.specs.Held.{enter_question}
 use Rattle.logic.specs.Limits.{exceeds}
 use Rattle.logic.specs.Outcome as logic
-use Rattle.logic.specs.Outcome.{State, Memory, if◌then◌else◌}
+use Rattle.logic.specs.Outcome.{State, Memory, when◌then◌else◌}
 use Rattle.logic.specs.Search.{as_stated, prove, ask}
 use Rattle.zones.specs.declared.Zones.{Zones}
 use Rattle.zones.specs.ZonesLaws.{within_more, meant_agree}
@@ -93,5 +93,5 @@ module _ (p : Prover) (z : Zones) (m : List ℕ) (memory : Memory) where
 -- a question whose formulas are entered is its sequent, proved over them
 pub ask_proving : (p : Prover) (question : Question) (memory : Memory) → count (to_one_sided question) ≤ 31 → length (enter_question question memory.held) ≤ 2048
     → ask (as_stated p.cache p.budget) p.limit question memory ≡ proving p (to_one_sided question) record { held = enter_question question memory.held; failures = memory.failures }
-unfolding ask prove if◌then◌else◌ exceeds
+unfolding ask prove when◌then◌else◌ exceeds
 ask_proving p question memory short room = rw (le-ltb 31 (count (to_one_sided question)) short, le-ltb 2048 (length (enter_question question memory.held)) room)

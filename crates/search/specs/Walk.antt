@@ -20,7 +20,7 @@ use Rattle.logic.specs.Split.{left_of, right_of}
 use Rattle.logic.specs.Key.{Key, sequent_key, contains}
 use Rattle.logic.specs.Held.{enter}
 use Rattle.logic.specs.Limits.{at_most, exceeds}
-use Rattle.logic.specs.Outcome.{Outcome, found, nothing, refused, State, Search, answer, if◌then◌else◌, or_next, ◌or_else◌, visited, hit, with_failure, with_held, record_failure, made}
+use Rattle.logic.specs.Outcome.{Outcome, found, nothing, refused, State, Search, answer, when◌then◌else◌, or_next, ◌or_else◌, visited, hit, with_failure, with_held, record_failure, made}
 use Rattle.logic.specs.Search.{Settings, as_stated, from_two, if_so, each, tensor_masks, prove_focused, try_axiom, try_dereliction, try_contraction, try_weakening, prove_sync, async_from, unless_empty, prove_async, entered, remembered, prove_with_depth}
 use Rattle.logic.specs.Built.{decomposable, Passed, none_yet, and_passed}
 use Rattle.logic.proofs.Ring.{ring, ring_over}
@@ -123,7 +123,7 @@ module _ (deeper : Sequent → Search) (q : Sequent) where
 
   -- only a positive formula is focused on
   pub positive_focused : (before : List Formula) (f : Formula) (after : List Formula) → positive_at before f after ≡ prove_focused deeper q before f after
-  unfolding is_positive prove_focused if◌then◌else◌
+  unfolding is_positive prove_focused when◌then◌else◌
   positive_focused before (Atom a) after = refl
   positive_focused before (NegAtom a) after = refl
   positive_focused before (Tensor a b) after = refl
@@ -139,7 +139,7 @@ module _ (deeper : Sequent → Search) (q : Sequent) where
   positive_focused before (Lolli a b) after = refl
 
   axiom_none : (before : List Formula) (f : Formula) (after : List Formula) → ((n : ℕ) → f ≡ NegAtom n → among (Atom n) (before ++ after) && eqb (length q.linear) 2 ≡ false) → try_axiom deeper q before f after ≡ answer nothing
-  unfolding try_axiom if◌then◌else◌
+  unfolding try_axiom when◌then◌else◌
   axiom_none before (NegAtom n) after h = rw (h n refl)
   axiom_none before (Atom a) after h = refl
   axiom_none before (Tensor a b) after h = refl
@@ -162,11 +162,11 @@ module _ (deeper : Sequent → Search) (q : Sequent) where
 
   module _ (two : eqb (length q.linear) 2 ≡ true) (s : State) where
     atom_first : (n : ℕ) → each positive_at [] (Atom n ∷ NegAtom n ∷ []) s ≡ (found (node Axiom q ∅), s)
-    unfolding each ◌or_else◌ if◌then◌else◌ is_positive prove_focused
+    unfolding each ◌or_else◌ when◌then◌else◌ is_positive prove_focused
     atom_first n = let e : among (NegAtom n) (NegAtom n ∷ []) && eqb (length q.linear) 2 ≡ true = rw (among_one, two) in rw e
 
     atom_second : (n : ℕ) → each positive_at [] (NegAtom n ∷ Atom n ∷ []) s ≡ (found (node Axiom q ∅), s)
-    unfolding each ◌or_else◌ if◌then◌else◌ is_positive prove_focused
+    unfolding each ◌or_else◌ when◌then◌else◌ is_positive prove_focused
     atom_second n = let e : among (NegAtom n) (NegAtom n ∷ []) && eqb (length q.linear) 2 ≡ true = rw (among_one, two) in rw e
 
     -- what the positives' pass finds in each of the two orders
@@ -244,7 +244,7 @@ module _ (use_cache : Bool) (budget : ℕ) where
 
 module _ (use_cache : Bool) (budget : ℕ) (q : Sequent) (m : Search) (s : State) where
   remembered_hit : seen use_cache budget s.memory.failures q ≡ true → remembered (settings use_cache budget) q m s ≡ (nothing, hit s)
-  unfolding remembered if◌then◌else◌
+  unfolding remembered when◌then◌else◌
   remembered_hit e = go use_cache e
     where
       go : (b : Bool) → seen b budget s.memory.failures q ≡ true → remembered (settings b budget) q m s ≡ (nothing, hit s)
@@ -252,7 +252,7 @@ module _ (use_cache : Bool) (budget : ℕ) (q : Sequent) (m : Search) (s : State
       go false h = absurd (false≢true h)
 
   remembered_searched : seen use_cache budget s.memory.failures q ≡ false → remembered (settings use_cache budget) q m s ≡ (m or_else filing use_cache budget q) s
-  unfolding remembered if◌then◌else◌
+  unfolding remembered when◌then◌else◌
   remembered_searched e = go use_cache e
     where
       go : (b : Bool) → seen b budget s.memory.failures q ≡ false → remembered (settings b budget) q m s ≡ (m or_else filing b budget q) s
@@ -265,20 +265,20 @@ module _ (use_cache : Bool) (budget : ℕ) where
     visit_long h = go left
       where
         go : (n : ℕ) → prove_with_depth (settings use_cache budget) n depth q s ≡ (refused too_many, s)
-        go zero = ap (λ m. m s) (ring_over (settings use_cache budget) depth q) ∙ unfold entered exceeds if◌then◌else◌ in rw (lt-ltb 31 (count q) h)
-        go (suc n) = ap (λ m. m s) (ring (settings use_cache budget) n depth q) ∙ unfold entered exceeds if◌then◌else◌ in rw (lt-ltb 31 (count q) h)
+        go zero = ap (λ m. m s) (ring_over (settings use_cache budget) depth q) ∙ unfold entered exceeds when◌then◌else◌ in rw (lt-ltb 31 (count q) h)
+        go (suc n) = ap (λ m. m s) (ring (settings use_cache budget) n depth q) ∙ unfold entered exceeds when◌then◌else◌ in rw (lt-ltb 31 (count q) h)
 
     module _ (short : count q ≤ 31) where
       pub visit_spent : budget ≤ s.explored → prove_with_depth (settings use_cache budget) left depth q s ≡ (refused budget_spent, s)
       visit_spent h = go left
         where
           go : (n : ℕ) → prove_with_depth (settings use_cache budget) n depth q s ≡ (refused budget_spent, s)
-          go zero = ap (λ m. m s) (ring_over (settings use_cache budget) depth q) ∙ unfold entered exceeds if◌then◌else◌ in rw (le-ltb 31 (count q) short, lt-ltb budget (suc s.explored) (omega arith))
-          go (suc n) = ap (λ m. m s) (ring (settings use_cache budget) n depth q) ∙ unfold entered exceeds if◌then◌else◌ in rw (le-ltb 31 (count q) short, lt-ltb budget (suc s.explored) (omega arith))
+          go zero = ap (λ m. m s) (ring_over (settings use_cache budget) depth q) ∙ unfold entered exceeds when◌then◌else◌ in rw (le-ltb 31 (count q) short, lt-ltb budget (suc s.explored) (omega arith))
+          go (suc n) = ap (λ m. m s) (ring (settings use_cache budget) n depth q) ∙ unfold entered exceeds when◌then◌else◌ in rw (le-ltb 31 (count q) short, lt-ltb budget (suc s.explored) (omega arith))
 
       module _ (some : s.explored < budget) where
         entered_now : (body : Search) → entered (settings use_cache budget) depth q body s ≡ body (visited depth s)
-        unfolding entered exceeds if◌then◌else◌
+        unfolding entered exceeds when◌then◌else◌
         entered_now body = rw (le-ltb 31 (count q) short, le-ltb budget (suc s.explored) some)
 
         -- a depth over the limit
@@ -297,28 +297,28 @@ module _ (use_cache : Bool) (budget : ℕ) where
 -- a new failure is recorded, where there is room
 module _ (q : Sequent) (s : State) where
   pub filing_known : (use_cache : Bool) (budget : ℕ) → contains s.memory.failures (sequent_key q) ≡ true → filing use_cache budget q s ≡ (nothing, s)
-  unfolding record_failure if◌then◌else◌
+  unfolding record_failure when◌then◌else◌
   filing_known true budget e = rw e
   filing_known false budget e = refl
 
   pub filing_off : (budget : ℕ) → filing false budget q s ≡ (nothing, s)
-  unfolding if◌then◌else◌
+  unfolding when◌then◌else◌
   filing_off budget = refl
 
   pub filing_full : (budget : ℕ) → contains s.memory.failures (sequent_key q) ≡ false → 1000 ≤ length s.memory.failures → filing true budget q s ≡ (refused failures_full, s)
-  unfolding record_failure if◌then◌else◌ exceeds
+  unfolding record_failure when◌then◌else◌ exceeds
   filing_full budget e h = rw (e, lt-ltb 1000 (suc (length s.memory.failures)) (omega arith))
 
   pub filing_new : (budget : ℕ) → contains s.memory.failures (sequent_key q) ≡ false → length s.memory.failures < 1000 → filing true budget q s ≡ (nothing, with_failure (sequent_key q) s)
-  unfolding record_failure if◌then◌else◌ exceeds
+  unfolding record_failure when◌then◌else◌ exceeds
   filing_new budget e h = rw (e, le-ltb 1000 (suc (length s.memory.failures)) (omega arith))
 
 -- a formula is made, where there is room
 module _ (f : Formula) (m : Search) (s : State) where
   pub made_full : 2048 < length (enter f s.memory.held) → made (at_most 2048) f m s ≡ (refused held_full, s)
-  unfolding made if◌then◌else◌ exceeds
+  unfolding made when◌then◌else◌ exceeds
   made_full h = rw (lt-ltb 2048 (length (enter f s.memory.held)) h)
 
   pub made_room : length (enter f s.memory.held) ≤ 2048 → made (at_most 2048) f m s ≡ m (with_held (enter f s.memory.held) s)
-  unfolding made if◌then◌else◌ exceeds
+  unfolding made when◌then◌else◌ exceeds
   made_room h = rw (le-ltb 2048 (length (enter f s.memory.held)) h)
