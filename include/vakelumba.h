@@ -1,4 +1,4 @@
-/* Vakelumba for C: a linear-logic prover and verifier. Link libvakelumba.a (rt lib vakelumba writes it to crates/vakelumba/out/).
+/* Vakelumba for C: a linear-logic prover and verifier. Link libvakelumba.a (rt lib in crates/vakelumba writes it to out/).
  *
  * Every call is total: any bytes, words and settings may be lent, and every place lent for a value is written on every answer, with 0 where
  * there is nothing to say. A call returns one number of vk_answer. What each call promises is proved; docs/PROMISES.md says where.

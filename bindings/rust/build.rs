@@ -1,4 +1,4 @@
-//! Finds libvakelumba.a: in the folder that VAKELUMBA_LIB_DIR names, or where `rt lib vakelumba` writes it in this repository.
+//! Finds libvakelumba.a: in the folder that VAKELUMBA_LIB_DIR names, or where `rt lib` in crates/vakelumba writes it in this repository.
 use std::env;
 use std::path::PathBuf;
 
