@@ -7,13 +7,14 @@ ghost use Rattle.std.specs.Prelude.{◌<◌};
 
 use super::words::{copy, put, say_answer};
 use std::io;
-use stored::{Unread, byte};
+use std::io::Read;
+use stored::byte;
 
 // The next digit; 0 where the next byte is none.
-fn digit(list: &mut Unread<'_>) -> usize
+fn digit(input: &mut impl Read) -> usize
     ensures { result < 10 }
 {
-    let b = byte(list);
+    let b = byte(input);
     if b < 48 {
         return 0;
     }
@@ -23,48 +24,48 @@ fn digit(list: &mut Unread<'_>) -> usize
     b - 48
 }
 
-fn number(list: &mut Unread<'_>) -> usize
+fn number(input: &mut impl Read) -> usize
     ensures { result < 100000 }
 {
-    let a = digit(list);
-    let b = digit(list);
-    let c = digit(list);
-    let d = digit(list);
-    let e = digit(list);
-    byte(list);
+    let a = digit(input);
+    let b = digit(input);
+    let c = digit(input);
+    let d = digit(input);
+    let e = digit(input);
+    byte(input);
     10000 * a + 1000 * b + 100 * c + 10 * d + e
 }
 
 // A number that fits a word; 0 for any other.
-fn word(list: &mut Unread<'_>) -> u16 {
-    let n = number(list);
+fn word(input: &mut impl Read) -> u16 {
+    let n = number(input);
     if n < 65536 { n as u16 } else { 0 }
 }
 
-fn run(list: &mut Unread<'_>, mem: &mut [u16]) {
-    let at = number(list);
-    let n = number(list);
+fn run(input: &mut impl Read, mem: &mut [u16]) {
+    let at = number(input);
+    let n = number(input);
     for k in 0..n {
-        put(mem, at + k, word(list));
+        put(mem, at + k, word(input));
     }
 }
 
 // All runs of a change.
-fn change(list: &mut Unread<'_>, mem: &mut [u16]) {
-    let n = number(list);
+fn change(input: &mut impl Read, mem: &mut [u16]) {
+    let n = number(input);
     if n == 0 {
         memory::reset(mem);
         return;
     }
     for _ in 0..n {
-        run(list, mem);
+        run(input, mem);
     }
 }
 
 // The rest of the line, of at most 100 bytes, as it stands.
-fn say_line(rt: &impl Print, list: &mut Unread<'_>) -> io::Result<()> {
+fn say_line(rt: &impl Print, input: &mut impl Read) -> io::Result<()> {
     for _ in 0..100 {
-        let b = byte(list);
+        let b = byte(input);
         if b == 10 {
             return Ok(());
         }
@@ -76,12 +77,12 @@ fn say_line(rt: &impl Print, list: &mut Unread<'_>) -> io::Result<()> {
 
 fn tried(
     rt: &impl Print,
-    list: &mut Unread<'_>,
+    input: &mut impl Read,
     good: &mut [u16],
     mem: &mut [u16],
 ) -> io::Result<()> {
-    change(list, mem);
-    say_line(rt, list)?;
+    change(input, mem);
+    say_line(rt, input)?;
     let fine = memory::well_formed(mem);
     say_answer(rt, fine)?;
     if fine {
@@ -92,11 +93,11 @@ fn tried(
     Ok(())
 }
 
-pub fn each(rt: &impl Print, list: &mut Unread<'_>, mem: &mut [u16]) -> io::Result<()> {
+pub fn each(rt: &impl Print, input: &mut impl Read, mem: &mut [u16]) -> io::Result<()> {
     let mut good = [0u16; memory::WORDS];
-    let n = number(list);
+    let n = number(input);
     for _ in 0..n {
-        tried(rt, list, &mut good, mem)?;
+        tried(rt, input, &mut good, mem)?;
     }
     Ok(())
 }

@@ -7,7 +7,6 @@ pub mod changes; // changes.rt: the changes that standard input lists: a small m
 pub mod full; // full.rt: no room for a formula, and none for a failure
 
 use std::io;
-use stored::Unread;
 
 // One word less: neither the test nor reset takes it, and no word changes.
 fn one_word_less(rt: &impl Print) -> io::Result<()> {
@@ -23,11 +22,10 @@ fn reset_of_one_word_less(rt: &impl Print) -> io::Result<()> {
 }
 
 fn main(rt: HostRuntime) -> io::Result<()> {
-    let input = stored::input(&rt)?;
     let mut mem = [7u16; memory::WORDS];
     words::say(&rt, b"any words", memory::well_formed(&mem))?;
     words::say_number(&rt, b"reset", memory::reset(&mut mem))?;
-    changes::each(&rt, &mut Unread::of(&input), &mut mem)?;
+    changes::each(&rt, &mut rt.reader(), &mut mem)?;
     one_word_less(&rt)?;
     reset_of_one_word_less(&rt)?;
     full::fill(&rt, &mut mem)

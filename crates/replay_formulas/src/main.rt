@@ -4,7 +4,8 @@
 
 use formula::{Positive, Written};
 use std::io;
-use stored::{MOST_RECORDS, Tally, Unread};
+use std::io::Read;
+use stored::{MOST_RECORDS, Tally};
 
 // The calls that write.
 #[derive(Clone, Copy)]
@@ -33,18 +34,18 @@ fn is_written(w: Written, out: &[u8], bytes: &[u8]) -> bool {
 }
 
 // The call writes what the list has next.
-fn writes(list: &mut Unread<'_>, call: Call, s: &[u8]) -> bool {
+fn writes(input: &mut impl Read, call: Call, s: &[u8]) -> bool {
     let mut said = stored::large_buffer();
-    let length = stored::number(list);
-    let n = stored::bytes(list, &mut said, length);
+    let length = stored::number(input);
+    let n = stored::bytes(input, &mut said, length);
     let mut out = stored::large_buffer();
     let w = answer(call, s, &mut out);
     is_written(w, &out, &said[..n])
 }
 
 // `is_positive` says what the list has next.
-fn judges(list: &mut Unread<'_>, s: &[u8]) -> bool {
-    let said = stored::byte(list);
+fn judges(input: &mut impl Read, s: &[u8]) -> bool {
+    let said = stored::byte(input);
     let Positive::Is(is_positive) = formula::is_positive(s) else {
         return false;
     };
@@ -52,25 +53,25 @@ fn judges(list: &mut Unread<'_>, s: &[u8]) -> bool {
 }
 
 // All five answers on the formula are the list's.
-fn agrees(list: &mut Unread<'_>, s: &[u8]) -> bool {
-    let negates = writes(list, Call::Negate, s);
-    let desugars = writes(list, Call::Desugar, s);
-    let is_judged = judges(list, s);
-    let prints = writes(list, Call::Pretty, s);
-    let prints_ascii = writes(list, Call::PrettyAscii, s);
+fn agrees(input: &mut impl Read, s: &[u8]) -> bool {
+    let negates = writes(input, Call::Negate, s);
+    let desugars = writes(input, Call::Desugar, s);
+    let is_judged = judges(input, s);
+    let prints = writes(input, Call::Pretty, s);
+    let prints_ascii = writes(input, Call::PrettyAscii, s);
     negates && desugars && is_judged && prints && prints_ascii
 }
 
-fn replay(list: &mut Unread<'_>) -> Tally {
+fn replay(input: &mut impl Read) -> Tally {
     let mut tally = Tally::new();
     for _ in 0..MOST_RECORDS {
         let mut buf = stored::large_buffer();
-        let length = stored::number(list);
-        let n = stored::bytes(list, &mut buf, length);
+        let length = stored::number(input);
+        let n = stored::bytes(input, &mut buf, length);
         if n == 0 {
             return tally;
         }
-        tally = tally.with(agrees(list, &buf[..n]));
+        tally = tally.with(agrees(input, &buf[..n]));
     }
     tally
 }
@@ -172,8 +173,7 @@ fn high_rows() -> Tally {
 }
 
 fn main(rt: HostRuntime) -> io::Result<()> {
-    let input = stored::input(&rt)?;
-    replay(&mut Unread::of(&input)).print(&rt, b" formulas")?;
+    replay(&mut rt.reader()).print(&rt, b" formulas")?;
     short_rows().print(&rt, b" settled answers at short formulas")?;
     high_rows().print(&rt, b" settled answers at the highest level")
 }

@@ -4,7 +4,8 @@
 
 use formula::Written;
 use std::io;
-use stored::{MOST_RECORDS, Tally, Unread};
+use std::io::Read;
+use stored::{MOST_RECORDS, Tally};
 
 // The question is written as these bytes.
 fn becomes(s: &[u8], bytes: &[u8]) -> bool {
@@ -16,26 +17,26 @@ fn becomes(s: &[u8], bytes: &[u8]) -> bool {
 }
 
 // The question becomes what the list has next, which stays as it is.
-fn agrees(list: &mut Unread<'_>, s: &[u8]) -> bool {
+fn agrees(input: &mut impl Read, s: &[u8]) -> bool {
     let mut said = stored::large_buffer();
-    let length = stored::number(list);
-    let n = stored::bytes(list, &mut said, length);
+    let length = stored::number(input);
+    let n = stored::bytes(input, &mut said, length);
     let one_sided = &said[..n];
     let turns = becomes(s, one_sided);
     let stays = becomes(one_sided, one_sided);
     turns && stays
 }
 
-fn replay(list: &mut Unread<'_>) -> Tally {
+fn replay(input: &mut impl Read) -> Tally {
     let mut tally = Tally::new();
     for _ in 0..MOST_RECORDS {
         let mut buf = stored::large_buffer();
-        let length = stored::number(list);
-        let n = stored::bytes(list, &mut buf, length);
+        let length = stored::number(input);
+        let n = stored::bytes(input, &mut buf, length);
         if n == 0 {
             return tally;
         }
-        tally = tally.with(agrees(list, &buf[..n]));
+        tally = tally.with(agrees(input, &buf[..n]));
     }
     tally
 }
@@ -170,8 +171,7 @@ fn heights() -> Tally {
 }
 
 fn main(rt: HostRuntime) -> io::Result<()> {
-    let input = stored::input(&rt)?;
-    replay(&mut Unread::of(&input)).print(&rt, b" questions")?;
+    replay(&mut rt.reader()).print(&rt, b" questions")?;
     heads().print(&rt, b" settled answers at the head")?;
     zones().print(&rt, b" settled answers at zones")?;
     widths().print(&rt, b" settled answers at wide questions")?;

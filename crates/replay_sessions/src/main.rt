@@ -10,7 +10,6 @@ mod limits; // limits.rt: what passes at a limit, and what is refused past it
 mod middle; // middle.rt: refusals in the middle of a search
 
 use std::io;
-use stored::Unread;
 
 // What is refused before a search.
 fn print_entry(rt: &impl Print) -> io::Result<()> {
@@ -20,8 +19,7 @@ fn print_entry(rt: &impl Print) -> io::Result<()> {
 }
 
 fn main(rt: HostRuntime) -> io::Result<()> {
-    let input = stored::input(&rt)?;
-    replay::replay(&rt, &mut Unread::of(&input))?;
+    replay::replay(&rt, &mut rt.reader())?;
     print_entry(&rt)?;
     limits::formulas().print(&rt, b" settled answers at full formulas")?;
     limits::failures().print(&rt, b" settled answers at full failures")?;

@@ -8,19 +8,20 @@ mod verdict;
 ghost use Rattle.std.specs.Prelude.{◌≡◌, length};
 
 use std::io;
-use stored::{MOST_RECORDS, Tally, Unread};
+use std::io::Read;
+use stored::{MOST_RECORDS, Tally};
 use tree::Measured;
 use verdict::{Verdict, same, told};
 
 // The verdict that the list has next.
-fn said(list: &mut Unread<'_>) -> Verdict {
+fn said(input: &mut impl Read) -> Verdict {
     Verdict {
-        answer: stored::byte(list),
-        rule: stored::byte(list),
-        node: stored::number(list),
-        wrappers: stored::number(list),
-        expected: stored::byte(list),
-        got: stored::byte(list),
+        answer: stored::byte(input),
+        rule: stored::byte(input),
+        node: stored::number(input),
+        wrappers: stored::number(input),
+        expected: stored::byte(input),
+        got: stored::byte(input),
     }
 }
 
@@ -33,10 +34,10 @@ fn is_deep(s: &[u8], depth: usize) -> bool {
 }
 
 // The tree's depth and the verdicts on it are the list's.
-fn agrees(list: &mut Unread<'_>, s: &[u8]) -> bool {
-    let measures = is_deep(s, stored::number(list));
-    let verifies = same(told(verify::verify(s)), said(list));
-    let is_strict = same(told(verify::verify_strict(s)), said(list));
+fn agrees(input: &mut impl Read, s: &[u8]) -> bool {
+    let measures = is_deep(s, stored::number(input));
+    let verifies = same(told(verify::verify(s)), said(input));
+    let is_strict = same(told(verify::verify_strict(s)), said(input));
     measures && verifies && is_strict
 }
 
@@ -47,16 +48,16 @@ fn message() -> [u8; 65538]
     [0; 65538]
 }
 
-fn replay(list: &mut Unread<'_>) -> Tally {
+fn replay(input: &mut impl Read) -> Tally {
     let mut tally = Tally::new();
     for _ in 0..MOST_RECORDS {
         let mut buf = message();
-        let length = stored::long_number(list);
-        let n = stored::bytes(list, &mut buf, length);
+        let length = stored::long_number(input);
+        let n = stored::bytes(input, &mut buf, length);
         if n == 0 {
             return tally;
         }
-        tally = tally.with(agrees(list, &buf[..n]));
+        tally = tally.with(agrees(input, &buf[..n]));
     }
     tally
 }
@@ -70,8 +71,7 @@ fn print_short(rt: &impl Print) -> io::Result<()> {
 }
 
 fn main(rt: HostRuntime) -> io::Result<()> {
-    let input = stored::input(&rt)?;
-    replay(&mut Unread::of(&input)).print(&rt, b" trees")?;
+    replay(&mut rt.reader()).print(&rt, b" trees")?;
     print_short(&rt)?;
     settled::widths().print(&rt, b" settled answers at wide sequents")?;
     settled::chains().print(&rt, b" settled answers at high trees")?;

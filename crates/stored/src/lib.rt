@@ -54,25 +54,6 @@ impl Tally {
     }
 }
 
-// All of standard input.
-pub fn input(rt: &(impl Input + AllocGlobal)) -> io::Result<Vec<u8>> {
-    let mut input = Vec::new(rt.alloc());
-    rt.reader().read_to_end(&mut input)?;
-    Ok(input)
-}
-
-// What is still to be read of a list.
-#[derive(Drop)]
-pub struct Unread<'a> {
-    rest: &'a [u8],
-}
-
-impl<'a> Unread<'a> {
-    pub fn of(list: &'a [u8]) -> Self {
-        Unread { rest: list }
-    }
-}
-
 // 65,536 zeros: room for the longest bytes behind a number of two bytes.
 pub fn large_buffer() -> [u8; 65536]
     ensures { 65536 ≡ length result }
@@ -86,43 +67,52 @@ fn wide(b: u8) -> usize
     b as usize
 }
 
-// The next byte, and the next numbers of two and of four bytes. Past the end of the list they are 0.
-pub fn byte(list: &mut Unread<'_>) -> usize
-    ensures { result < 256 }
+// The input's next bytes, to the front of `buf`, and how many there were: fewer than `buf` holds only where the input ends. A read that fails counts as the end.
+fn read_full(input: &mut impl Read, buf: &mut [u8]) -> usize
+    ensures { IsPrefixLen result buf.new }
 {
-    let Some((b, rest)) = list.rest.split_first() else {
-        return 0;
-    };
-    list.rest = rest;
-    wide(*b)
+    let mut done = 0;
+    while done < buf.len() {
+        let n = input.read(&mut buf[done..]).unwrap_or(0);
+        if n == 0 {
+            break;
+        }
+        done += n;
+    }
+    done
 }
 
-pub fn number(list: &mut Unread<'_>) -> usize
+// The next byte, and the next numbers of two and of four bytes. Past the end of the list they are 0.
+pub fn byte(input: &mut impl Read) -> usize
+    ensures { result < 256 }
+{
+    let mut b = [0u8; 1];
+    read_full(input, &mut b);
+    wide(b[0])
+}
+
+pub fn number(input: &mut impl Read) -> usize
     ensures { result < 65536 }
 {
-    let high = byte(list);
-    let low = byte(list);
+    let high = byte(input);
+    let low = byte(input);
     high * 256 + low
 }
 
-pub fn long_number(list: &mut Unread<'_>) -> usize {
-    let high = number(list);
-    let low = number(list);
+pub fn long_number(input: &mut impl Read) -> usize {
+    let high = number(input);
+    let low = number(input);
     high * 65536 + low
 }
 
 // The next so many bytes, to the front of `buf`, and how many there were. More than `buf` holds are none.
-pub fn bytes(list: &mut Unread<'_>, buf: &mut [u8], n: usize) -> usize
+pub fn bytes(input: &mut impl Read, buf: &mut [u8], n: usize) -> usize
     ensures { IsPrefixLen result buf.new }
 {
     if buf.len() < n {
         return 0;
     }
-    let k = at_most(n, list.rest);
-    let (next, rest) = list.rest.split_at(k);
-    buf[..k].copy_from_slice(next);
-    list.rest = rest;
-    k
+    read_full(input, &mut buf[..n])
 }
 
 // A number of the bytes of `buf`: n, or all of them where there are fewer.
