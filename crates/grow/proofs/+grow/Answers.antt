@@ -1,3 +1,4 @@
+use borrow.Author.Rules.{rules}
 use Rattle.std.proofs.lemmas.Bool.{not_from_true, not_from_false}
 use mathlib.Core.Path.{◌∙◌}
 use native.Mathlib.Omega.{arith}
@@ -26,7 +27,7 @@ returns-then-not-takes t c = grows_mismatch c.requires c.spell_first-spelt.ensur
 pub returns-then-crowded : goal.returns-then-crowded
 returns-then-crowded t c = grows_crowded c.requires c.spell_first-spelt.ensures
     c.if-spelt.false c.node_at-node.ensures c.may_take-takes.ensures
-    (not_from_true _ c.if-not-takes.false) _ c.is_crowded-crowded.ensures c.if-crowded.true
+    (not_from_true _ (search rules)) _ c.is_crowded-crowded.ensures c.if-crowded.true
 
 pub node_word-w-requires : goal.node_word-w-requires
 node_word-w-requires t c = let n = c.node_at-node.ensures in (n.rule_low, (n.place_low, n.mask_is.small))
