@@ -22,9 +22,7 @@ use Rattle.formula.specs.declared.Form.{Form}
 use Rattle.formula.specs.declared.Form.TheVariants.{Unit, Named, Binary, Unary, Unknown}
 use Rattle.formula.specs.declared.Refusal as refusal
 use Rattle.formula.specs.declared.Refusal.TheVariants.{OutputShort}
-use Rattle.formula.specs.declared.Read.TheVariants.{Next, Refused}
-use Rattle.formula.specs.declared.Written.TheVariants as written_as
-use Rattle.formula.specs.declared.Positive.TheVariants as positive_as
+use Rattle.std.specs.Prelude.{Ok, Err}
 
 -- the whole slice is one formula
 pub record Whole (s : List ℕ) (n : ℕ) : Type 0 where
@@ -36,7 +34,7 @@ pub record Whole (s : List ℕ) (n : ℕ) : Type 0 where
   pub wide : n ≡ size formula
 
 module _ (s : List ℕ) (bytes : Bytes s) where
-  whole_of : (n : ℕ) (m : Read Formula) → read_formula highest_formula s ≡ m → reads (length s) (m then λ f rest. at_end f rest) ≡ Next n → Whole s n
+  whole_of : (n : ℕ) (m : Read Formula) → read_formula highest_formula s ≡ m → reads (length s) (m then λ f rest. at_end f rest) ≡ Ok n → Whole s n
   unfolding reads read_one at_end ◌then◌
   whole_of n (got f []) e h =
       let back = write_read highest_formula s f [] bytes e in
@@ -46,7 +44,7 @@ module _ (s : List ℕ) (bytes : Bytes s) where
   whole_of n (got f (b ∷ bs)) e h = let z : ◌≡◌ {A = ℕ} 0 1 = cc in absurd (omega arith)
   whole_of n (refused k) e h = let z : ◌≡◌ {A = ℕ} 0 1 = cc in absurd (omega arith)
 
-  pub whole : {n : ℕ} → reads (length s) (read_one s) ≡ Next n → Whole s n
+  pub whole : {n : ℕ} → reads (length s) (read_one s) ≡ Ok n → Whole s n
   unfolding read_one
   whole {n} h = whole_of n (read_formula highest_formula s) refl h
 
@@ -57,20 +55,20 @@ whole_stands w = record { rest = []; here = w.bytes_are ∙ sym (append-nil (wri
 
 module _ (text : Formula → List ℕ) (s out : List ℕ) where
   -- a refusal of reading is the call's, and the buffer stays
-  refused_so : (n : ℕ) (k : refusal.Refusal) (m : Read Formula) → read_one s ≡ m → reads n m ≡ Refused k → Writes text s out (written_as.Refused k) out
+  refused_so : (n : ℕ) (k : refusal.Refusal) (m : Read Formula) → read_one s ≡ m → reads n m ≡ Err k → Writes text s out (Err k) out
   unfolding reads written left_in
   refused_so n k (got f rest) e h = let z : ◌≡◌ {A = ℕ} 0 1 = cc in absurd (omega arith)
-  refused_so n k (refused j) e h = let same : coded j ≡ k = cc in record { answer = rw e (ap written_as.Refused (sym same)); buffer = rw e }
+  refused_so n k (refused j) e h = let same : coded j ≡ k = cc in record { answer = rw e (ap Err (sym same)); buffer = rw e }
 
-  pub writes_refused : {k : refusal.Refusal} → reads (length s) (read_one s) ≡ Refused k → Writes text s out (written_as.Refused k) out
+  pub writes_refused : {k : refusal.Refusal} → reads (length s) (read_one s) ≡ Err k → Writes text s out (Err k) out
   writes_refused {k} h = refused_so (length s) k (read_one s) refl h
 
   module _ {n : ℕ} (w : Whole s n) where
-    pub writes_short : length out < length (text w.formula) → Writes text s out (written_as.Refused OutputShort) out
+    pub writes_short : length out < length (text w.formula) → Writes text s out (Err OutputShort) out
     unfolding written left_in
     writes_short h = let longer = lt-leb (length (text w.formula)) (length out) h in record { answer = rw (w.read, longer, written); buffer = rw (w.read, longer, left_in) }
 
-    pub writes_text : length (text w.formula) ≤ length out → Writes text s out (written_as.Bytes (length (text w.formula))) (sets out 0 (text w.formula))
+    pub writes_text : length (text w.formula) ≤ length out → Writes text s out (Ok (length (text w.formula))) (sets out 0 (text w.formula))
     unfolding written left_in
     writes_text h =
         let fits = le-leb (length (text w.formula)) (length out) h in
@@ -82,7 +80,7 @@ module _ (text : Formula → List ℕ) (s out : List ℕ) where
 
     -- the text was laid out by stores, and the answer is how many
     pub writes_bytes : {n : ℕ} {last : List ℕ} → length (text w.formula) ≤ length out → n ≡ length (text w.formula) → last ≡ sets out 0 (text w.formula)
-        → Writes text s out (written_as.Bytes n) last
+        → Writes text s out (Ok n) last
     writes_bytes h e l = rw (e, l) (writes_text h)
 
 -- ---- `is_positive`
@@ -106,14 +104,14 @@ positive_here s at f Binary u = all_at PositiveAt signs signs_positive (get_or s
 positive_here s at f Unary u = all_at PositiveAt signs signs_positive (get_or s at 0) (unary u.make) u.sign u.part ∙ ap is_positive (sym u.same)
 positive_here s at f Unknown u = absurd u
 
-pub judged : {s : List ℕ} {n : ℕ} {b : Bool} (w : Whole s n) → b ≡ positive_tag (get_or s 0 0) → positive_as.Is b ≡ positive (read_one s)
+pub judged : {s : List ℕ} {n : ℕ} {b : Bool} (w : Whole s n) → b ≡ positive_tag (get_or s 0 0) → Ok b ≡ positive (read_one s)
 unfolding positive
-judged {s} w e = rw w.read (ap positive_as.Is (e ∙ positive_here s 0 w.formula (form_of (get_or s 0 0)) (shaped s 0 w.formula (whole_stands w) refl)))
+judged {s} w e = rw w.read (ap Ok (e ∙ positive_here s 0 w.formula (form_of (get_or s 0 0)) (shaped s 0 w.formula (whole_stands w) refl)))
 
-refused_positive_so : (n : ℕ) (k : refusal.Refusal) (m : Read Formula) → reads n m ≡ Refused k → positive_as.Refused k ≡ positive m
+refused_positive_so : (n : ℕ) (k : refusal.Refusal) (m : Read Formula) → reads n m ≡ Err k → Err k ≡ positive m
 unfolding reads positive
 refused_positive_so n k (got f rest) h = let z : ◌≡◌ {A = ℕ} 0 1 = cc in absurd (omega arith)
-refused_positive_so n k (refused j) h = let same : coded j ≡ k = cc in ap positive_as.Refused (sym same)
+refused_positive_so n k (refused j) h = let same : coded j ≡ k = cc in ap Err (sym same)
 
-pub judged_refused : {k : refusal.Refusal} (s : List ℕ) → reads (length s) (read_one s) ≡ Refused k → positive_as.Refused k ≡ positive (read_one s)
+pub judged_refused : {k : refusal.Refusal} (s : List ℕ) → reads (length s) (read_one s) ≡ Err k → Err k ≡ positive (read_one s)
 judged_refused {k} s h = refused_positive_so (length s) k (read_one s) h

@@ -15,7 +15,7 @@ use Rattle.formula.specs.SignsLaws.{all_at, shaped, starts_inside, tag_below}
 use Rattle.formula.specs.Calls.{Writes}
 use Rattle.formula.proofs.CallsLaws.{Whole, whole_stands, writes_short, writes_bytes}
 use Rattle.formula.specs.declared.Refusal.TheVariants.{OutputShort}
-use Rattle.formula.specs.declared.Written.TheVariants.{Bytes, Refused}
+use Rattle.std.specs.Prelude.{Ok, Err}
 use Rattle.formula.specs.Rewriting.{rewritten, turned_of, other_way, left_of, Ready, Rewritten}
 use Rattle.formula.specs.declared.Form.TheVariants.{Unit, Named, Binary, Unary, Unknown}
 use Rattle.formula.specs.declared.rewrite.How.{How}
@@ -175,10 +175,10 @@ module _ (s out : List ℕ) {n : ℕ} (w : Whole s n) where
     wide_text : length (write_formula (rewritten how w.formula)) ≡ n
     wide_text = length_write (rewritten how w.formula) ∙ rewritten_size how w.formula ∙ sym w.wide
 
-    pub rewrite_short : length out < n → Writes (λ f. write_formula (rewritten how f)) s out (Refused OutputShort) out
+    pub rewrite_short : length out < n → Writes (λ f. write_formula (rewritten how f)) s out (Err OutputShort) out
     rewrite_short h = writes_short (λ f. write_formula (rewritten how f)) s out w (omega (arith, wide_text))
 
-    pub rewrite_done : {next : ℕ} {last : List ℕ} → n ≤ length out → Rewritten s 0 how out next last → Writes (λ f. write_formula (rewritten how f)) s out (Bytes next) last
+    pub rewrite_done : {next : ℕ} {last : List ℕ} → n ≤ length out → Rewritten s 0 how out next last → Writes (λ f. write_formula (rewritten how f)) s out (Ok next) last
     rewrite_done {next} {last} h r =
         writes_bytes (λ f. write_formula (rewritten how f)) s out w (omega (arith, wide_text)) (omega (arith, wide_text, w.wide, r.after w.formula (whole_stands w)))
         (r.bytes w.formula (whole_stands w))

@@ -16,8 +16,7 @@ use Rattle.formula.specs.declared.Refusal.TheVariants.{
   WrongSetting,
   WrongMemory,
 }
-use Rattle.formula.specs.declared.Read.{Read}
-use Rattle.formula.specs.declared.Read.TheVariants.{Next, Refused}
+use Rattle.std.specs.Prelude.{Result, Ok, Err}
 
 -- the code's refusal, by document 01's; and back, so each has document 01's number
 unfoldable pub coded : answer.Refusal → Refusal
@@ -50,6 +49,6 @@ abbrev pub number_of : Refusal → ℕ
 number_of r = answer.number (named r)
 
 -- a reader whose bytes end at `end`: the place after what it read, or the refusal
-unfoldable pub reads : {A : Type 0} → (end : ℕ) → wire.Read A → Read
-reads end (wire.got a rest) = Next (end - length rest)
-reads end (wire.refused k) = Refused (coded k)
+unfoldable pub reads : {A : Type 0} → (end : ℕ) → wire.Read A → Result ℕ Refusal
+reads end (wire.got a rest) = Ok (end - length rest)
+reads end (wire.refused k) = Err (coded k)

@@ -5,8 +5,7 @@ use Rattle.wire.specs.Read.{Sign, unit, named, binary, unary, signs, read_formul
 use Rattle.formula.specs.Answers.{reads}
 use Rattle.formula.specs.declared.Refusal.{Refusal}
 use Rattle.formula.specs.declared.Refusal.TheVariants.{WrongLength, WrongTag, TooHigh}
-use Rattle.formula.specs.declared.Read.{Read}
-use Rattle.formula.specs.declared.Read.TheVariants.{Next, Refused}
+use Rattle.std.specs.Prelude.{Result, Ok, Err}
 use Rattle.formula.specs.declared.Form.{Form}
 use Rattle.formula.specs.declared.Form.TheVariants.{Unit, Named, Binary, Unary, Unknown}
 use Rattle.formula.specs.declared.Look.{Look}
@@ -45,15 +44,15 @@ above_of Unary = TooHigh
 module _ (at end : ℕ) where
   -- where a level is left
   unfoldable pub look_of : Form → Look
-  look_of Unit = Done (Next (at + 1))
-  look_of Named = Done (elim (ltb (end - at) 3) [ true ↦ Refused WrongLength | false ↦ Next (at + 3) ])
+  look_of Unit = Done (Ok (at + 1))
+  look_of Named = Done (elim (ltb (end - at) 3) [ true ↦ Err WrongLength | false ↦ Ok (at + 3) ])
   look_of Binary = Two
   look_of Unary = One
-  look_of Unknown = Done (Refused WrongTag)
+  look_of Unknown = Done (Err WrongTag)
 
 module _ (s : List ℕ) (at end levels : ℕ) where
   -- what reading answers, once the tag was looked at
-  unfoldable pub read_on : Look → Read
+  unfoldable pub read_on : Look → Result ℕ Refusal
   read_on (Done r) = r
   read_on One = reads end (read_formula (levels - 1) (slice (at + 1) end s))
   read_on Two = reads end (read_formula (levels - 1) (slice (at + 1) end s) then λ a rest. read_formula (levels - 1) rest)

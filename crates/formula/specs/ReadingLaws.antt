@@ -15,8 +15,7 @@ use Rattle.wire.specs.FitsLaws.{bytes_take, bytes_drop}
 use Rattle.wire.proofs.FormulaBytes.{length_write, write_read}
 use Rattle.formula.specs.Answers.{coded, reads}
 use Rattle.formula.specs.Reading.{form_of_sign, form_in, form_of, above_of, look_of, read_on, Goes_on, Looked}
-use Rattle.formula.specs.declared.Read as read
-use Rattle.formula.specs.declared.Read.TheVariants.{Next, Refused}
+use Rattle.std.specs.Prelude.{Result, Ok, Err}
 use Rattle.formula.specs.declared.Refusal as refusal
 use Rattle.formula.specs.declared.Refusal.TheVariants.{WrongLength, TooHigh}
 use Rattle.formula.specs.declared.Form.{Form}
@@ -40,25 +39,25 @@ sign_at (s ∷ ss) (suc t) = go (sign_at ss t)
     go (some x e f) = some x e f
 
 -- no byte
-pub read_none : (levels end : ℕ) → reads end (read_formula levels []) ≡ Refused WrongLength
+pub read_none : (levels end : ℕ) → reads end (read_formula levels []) ≡ Err WrongLength
 unfolding reads read_formula read_byte ◌then◌ coded
 read_none zero end = refl
 read_none (suc levels) end = refl
 
 -- no level
-pub read_above : (end t : ℕ) (bs : List ℕ) → reads end (read_formula 0 (t ∷ bs)) ≡ Refused (above_of (form_of t))
+pub read_above : (end t : ℕ) (bs : List ℕ) → reads end (read_formula 0 (t ∷ bs)) ≡ Err (above_of (form_of t))
 unfolding reads read_formula read_byte ◌then◌ coded above_of form_of_sign
 read_above end t bs = go (sign_at signs t)
   where
-    by_sign : (s : Sign) → Refused TooHigh ≡ Refused (above_of (form_of_sign s))
+    by_sign : (s : Sign) → TooHigh ≡ above_of (form_of_sign s)
     by_sign (unit f) = refl
     by_sign (named f) = refl
     by_sign (binary f) = refl
     by_sign (unary f) = refl
 
-    go : SignAt signs t → reads end (read_formula 0 (t ∷ bs)) ≡ Refused (above_of (form_of t))
+    go : SignAt signs t → reads end (read_formula 0 (t ∷ bs)) ≡ Err (above_of (form_of t))
     go (none e n) = rw (n wrong_tag (λ s. refused too_high), e)
-    go (some s e n) = rw (n wrong_tag (λ s. refused too_high), e) (by_sign s)
+    go (some s e n) = rw (n wrong_tag (λ s. refused too_high), e) (ap Err (by_sign s))
 
 -- a level, and a tag
 read_tag : (levels t : ℕ) (bs : List ℕ) → 0 < levels → read_formula levels (t ∷ bs) ≡ entry signs t wrong_tag λ s. read_parts (read_formula (levels - 1)) s bs
@@ -85,7 +84,7 @@ unfolding reads read_parts read_two read_byte ◌then◌ coded look_of
 read_name at end part x [] h e = rw (lt-ltb (end - at) 3 (omega arith))
 read_name at end part x (b ∷ []) h e = rw (lt-ltb (end - at) 3 (omega arith))
 read_name at end part x (b ∷ b₂ ∷ bs) h e =
-    rw (le-ltb (end - at) 3 (omega arith)) (ap (λ (n : ℕ). Done (Next n)) (omega arith))
+    rw (le-ltb (end - at) 3 (omega arith)) (ap (λ (n : ℕ). Done (Ok n)) (omega arith))
 
 -- the tag, and what is behind it
 pub tag_and_parts : (s : List ℕ) (at end : ℕ) → at < end → end ≤ length s → slice at end s ≡ get_or s at 0 ∷ slice (at + 1) end s
@@ -97,7 +96,7 @@ module _ (s : List ℕ) (at end levels : ℕ) (here : at < end) (inside : end �
 
   read_by_sign : (x : Sign) → reads end (read_parts (read_formula (levels - 1)) x (slice (at + 1) end s)) ≡ read_on s at end levels (look_of at end (form_of_sign x))
   unfolding reads read_parts read_on form_of_sign look_of
-  read_by_sign (unit f) = ap Next (omega (arith, length_behind))
+  read_by_sign (unit f) = ap Ok (omega (arith, length_behind))
   read_by_sign (named f) = ap (read_on s at end levels) (read_name at end (read_formula (levels - 1)) f (slice (at + 1) end s) here length_behind)
   read_by_sign (binary f) = reads_two end f (read_formula (levels - 1)) (read_formula (levels - 1) (slice (at + 1) end s))
   read_by_sign (unary f) = reads_one end f (read_formula (levels - 1) (slice (at + 1) end s))
@@ -113,12 +112,12 @@ module _ (s : List ℕ) (at end levels : ℕ) (here : at < end) (inside : end �
 
 -- ---- what is known at a formula's tag, by the tests of the code
 
-pub looked_none : (s : List ℕ) (at end levels : ℕ) → at ≡ end → Looked s at end levels (Done (Refused WrongLength))
+pub looked_none : (s : List ℕ) (at end levels : ℕ) → at ≡ end → Looked s at end levels (Done (Err WrongLength))
 unfolding read_on Goes_on
 looked_none s at end levels e = record { right = rw (e, slice_empty end s) (read_none levels end); goes_on = omega arith }
 
 module _ (s : List ℕ) (at end levels : ℕ) (inside : (at ≤ end) × (end ≤ length s)) (more : at ≡ end → ⊥) where
-  pub looked_above : {form : Form} {r : refusal.Refusal} → levels ≡ 0 → form ≡ form_of (get_or s at 0) → r ≡ above_of form → Looked s at end levels (Done (Refused r))
+  pub looked_above : {form : Form} {r : refusal.Refusal} → levels ≡ 0 → form ≡ form_of (get_or s at 0) → r ≡ above_of form → Looked s at end levels (Done (Err r))
   unfolding read_on Goes_on
   looked_above z f e = record { right = rw (z, tag_and_parts s at end (omega arith) inside.1, read_above end (get_or s at 0) (slice (at + 1) end s)) (cc); goes_on = inside.0 }
 
@@ -138,11 +137,11 @@ module _ (s : List ℕ) (at end levels : ℕ) (inside : (at ≤ end) × (end ≤
           goes_on = goes f;
         }
 
-    pub looked_short : form ≡ Named → end - at < 3 → Looked s at end levels (Done (Refused WrongLength))
+    pub looked_short : form ≡ Named → end - at < 3 → Looked s at end levels (Done (Err WrongLength))
     unfolding look_of
     looked_short e h = rw (lt-ltb (end - at) 3 h) at (looked_at e)
 
-    pub looked_name : form ≡ Named → 3 ≤ end - at → Looked s at end levels (Done (Next (at + 3)))
+    pub looked_name : form ≡ Named → 3 ≤ end - at → Looked s at end levels (Done (Ok (at + 3)))
     unfolding look_of
     looked_name e h = rw (le-ltb (end - at) 3 h) at (looked_at e)
 
@@ -157,7 +156,7 @@ module _ (s : List ℕ) (bytes : Bytes s) (end : ℕ) (inside : end ≤ length s
     pub after : next ≡ at + size formula
     pub within : next ≤ end
 
-  reached_got : (levels at next : ℕ) → at ≤ end → (m : Read Formula) → read_formula levels (slice at end s) ≡ m → reads end m ≡ Next next → Reached levels at next
+  reached_got : (levels at next : ℕ) → at ≤ end → (m : Read Formula) → read_formula levels (slice at end s) ≡ m → reads end m ≡ Ok next → Reached levels at next
   unfolding reads
   reached_got levels at next h (got f rest) e₁ e₂ =
       let there = write_read levels (slice at end s) f rest (bytes_drop at (bytes_take end bytes)) e₁ in
@@ -172,7 +171,7 @@ module _ (s : List ℕ) (bytes : Bytes s) (end : ℕ) (inside : end ≤ length s
       record { formula = f; read = rw left e₁; back = rw left there; after = after; within = omega arith }
   reached_got levels at next h (refused k) e₁ e₂ = let z : ◌≡◌ {A = ℕ} 0 1 = cc in absurd (omega arith)
 
-  pub reached : (levels at next : ℕ) → at ≤ end → reads end (read_formula levels (slice at end s)) ≡ Next next → Reached levels at next
+  pub reached : (levels at next : ℕ) → at ≤ end → reads end (read_formula levels (slice at end s)) ≡ Ok next → Reached levels at next
   reached levels at next h e = reached_got levels at next h (read_formula levels (slice at end s)) refl e
 
 -- ---- document 01's table of tags, by the tests of the code
@@ -246,13 +245,13 @@ unknown_tag (suc (suc (suc (suc (suc (suc (suc (suc (suc (suc (suc (suc (suc t))
 
 -- ---- the parts, by the calls of the code
 
-passed : (end : ℕ) {x : read.Read} (more : Formula → List ℕ → Read Formula) (m : Read Formula) {k : refusal.Refusal} → x ≡ reads end m → x ≡ Refused k → x ≡ reads end (m then more)
+passed : (end : ℕ) {x : Result ℕ refusal.Refusal} (more : Formula → List ℕ → Read Formula) (m : Read Formula) {k : refusal.Refusal} → x ≡ reads end m → x ≡ Err k → x ≡ reads end (m then more)
 unfolding reads ◌then◌
 passed end more (got f rest) p q = let z : ◌≡◌ {A = ℕ} 0 1 = cc in absurd (omega arith)
 passed end more (refused j) p q = p
 
 module _ (s : List ℕ) (at end levels : ℕ) {r : look.Look} (l : Looked s at end levels r) where
-  pub done : {x : read.Read} → r ≡ Done x → x ≡ reads end (read_formula levels (slice at end s))
+  pub done : {x : Result ℕ refusal.Refusal} → r ≡ Done x → x ≡ reads end (read_formula levels (slice at end s))
   unfolding read_on
   done e = sym (l.right ∙ ap (read_on s at end levels) e)
 
@@ -264,20 +263,20 @@ module _ (s : List ℕ) (at end levels : ℕ) {r : look.Look} (l : Looked s at e
   unfolding Goes_on
   two_goes_on e = rw e at l.goes_on
 
-  pub one_read : {x : read.Read} → r ≡ One → x ≡ reads end (read_formula (levels - 1) (slice (at + 1) end s)) → x ≡ reads end (read_formula levels (slice at end s))
+  pub one_read : {x : Result ℕ refusal.Refusal} → r ≡ One → x ≡ reads end (read_formula (levels - 1) (slice (at + 1) end s)) → x ≡ reads end (read_formula levels (slice at end s))
   unfolding read_on
   one_read e p = p ∙ sym (l.right ∙ ap (read_on s at end levels) e)
 
   -- the first part's refusal is the whole's
-  pub first_refused : {x : read.Read} {k : refusal.Refusal} → r ≡ Two → x ≡ reads end (read_formula (levels - 1) (slice (at + 1) end s)) → x ≡ Refused k
+  pub first_refused : {x : Result ℕ refusal.Refusal} {k : refusal.Refusal} → r ≡ Two → x ≡ reads end (read_formula (levels - 1) (slice (at + 1) end s)) → x ≡ Err k
       → x ≡ reads end (read_formula levels (slice at end s))
   unfolding read_on
   first_refused e p q = passed end (λ a rest. read_formula (levels - 1) rest) (read_formula (levels - 1) (slice (at + 1) end s)) p q ∙ sym (l.right ∙ ap (read_on s at end levels) e)
 
-  pub second_within : {next : ℕ} → (bytes : Bytes s) (inside : end ≤ length s) → r ≡ Two → reads end (read_formula (levels - 1) (slice (at + 1) end s)) ≡ Next next → next ≤ end
+  pub second_within : {next : ℕ} → (bytes : Bytes s) (inside : end ≤ length s) → r ≡ Two → reads end (read_formula (levels - 1) (slice (at + 1) end s)) ≡ Ok next → next ≤ end
   second_within {next} bytes inside e p = (reached s bytes end inside (levels - 1) (at + 1) next (omega (arith, two_goes_on e)) p).within
 
-  pub two_read : {x : read.Read} {next : ℕ} → (bytes : Bytes s) (inside : end ≤ length s) → r ≡ Two → reads end (read_formula (levels - 1) (slice (at + 1) end s)) ≡ Next next
+  pub two_read : {x : Result ℕ refusal.Refusal} {next : ℕ} → (bytes : Bytes s) (inside : end ≤ length s) → r ≡ Two → reads end (read_formula (levels - 1) (slice (at + 1) end s)) ≡ Ok next
       → x ≡ reads end (read_formula (levels - 1) (slice next end s)) → x ≡ reads end (read_formula levels (slice at end s))
   unfolding read_on ◌then◌
   two_read {next = next} bytes inside e p q =
@@ -289,12 +288,12 @@ module _ (s : List ℕ) (at end levels : ℕ) {r : look.Look} (l : Looked s at e
 pub slice_whole : (s : List ℕ) → slice 0 (length s) s ≡ s
 slice_whole s = take-length s
 
-module _ (s : List ℕ) {x : read.Read} (read : x ≡ reads (length s) (read_formula highest_formula (slice 0 (length s) s))) where
-  pub whole_refused : {k : refusal.Refusal} → x ≡ Refused k → x ≡ reads (length s) (read_one s)
+module _ (s : List ℕ) {x : Result ℕ refusal.Refusal} (read : x ≡ reads (length s) (read_formula highest_formula (slice 0 (length s) s))) where
+  pub whole_refused : {k : refusal.Refusal} → x ≡ Err k → x ≡ reads (length s) (read_one s)
   unfolding read_one
   whole_refused e = passed (length s) (λ f rest. at_end f rest) (read_formula highest_formula s) (rw slice_whole at read) e
 
-  module _ (bytes : Bytes s) {next : ℕ} (e : x ≡ Next next) where
+  module _ (bytes : Bytes s) {next : ℕ} (e : x ≡ Ok next) where
     there : Reached s bytes (length s) (le_refl (length s)) highest_formula 0 next
     there = reached s bytes (length s) (le_refl (length s)) highest_formula 0 next (omega arith) (sym read ∙ e)
 
@@ -302,11 +301,11 @@ module _ (s : List ℕ) {x : read.Read} (read : x ≡ reads (length s) (read_for
     unfolding read_one ◌then◌
     left rest h = let r : read_formula highest_formula s ≡ got there.formula rest = ap (read_formula highest_formula) (sym (slice_whole s)) ∙ there.read ∙ ap (got there.formula) h in rw r
 
-    pub whole_read : next ≡ length s → Next next ≡ reads (length s) (read_one s)
+    pub whole_read : next ≡ length s → Ok next ≡ reads (length s) (read_one s)
     unfolding reads at_end
-    whole_read h = rw (left [] (ap (λ (k : ℕ). slice k (length s) s) h ∙ slice_empty (length s) s)) (ap Next (omega arith))
+    whole_read h = rw (left [] (ap (λ (k : ℕ). slice k (length s) s) h ∙ slice_empty (length s) s)) (ap Ok (omega arith))
 
-    pub whole_left : (next ≡ length s → ⊥) → Refused WrongLength ≡ reads (length s) (read_one s)
+    pub whole_left : (next ≡ length s → ⊥) → Err WrongLength ≡ reads (length s) (read_one s)
     unfolding reads coded at_end
     whole_left h =
         let more : next < length s = omega (arith, there.within) in

@@ -15,9 +15,11 @@ ghost use Rattle.formula.specs.Calls.{Writes, positive};
 ghost use Rattle.formula.specs.Reading.{form_of, above_of, positive_tag, Looked};
 
 use rewrite::How;
+use std::error::Error;
+use std::fmt;
 
 // Document 01's table "What a call can say", but for 0 and 1.
-#[derive(Clone, Copy)]
+#[derive(Clone, Copy, Debug, PartialEq, Eq)]
 pub enum Refusal {
     WrongNumber,
     WrongLength,
@@ -32,29 +34,49 @@ pub enum Refusal {
     WrongMemory,
 }
 
-// What a reader answers: the place after what it read, or a refusal.
-#[derive(Clone, Copy)]
-pub enum Read {
-    Next(usize),
-    Refused(Refusal),
+// Document 01's number of a refusal.
+impl From<Refusal> for u8 {
+    ghost from_gives = { λ k n. n ≡ number_of k };
+
+    fn from(k: Refusal) -> u8 {
+        match k {
+            Refusal::WrongNumber => 2,
+            Refusal::WrongLength => 3,
+            Refusal::WrongTag => 4,
+            Refusal::TooHigh => 5,
+            Refusal::TooMany => 6,
+            Refusal::HeldFull => 7,
+            Refusal::BudgetSpent => 8,
+            Refusal::FailuresFull => 9,
+            Refusal::OutputShort => 10,
+            Refusal::WrongSetting => 11,
+            Refusal::WrongMemory => 12,
+        }
+    }
 }
 
-// What a writer answers: how many bytes it wrote, from the front of the output buffer, or a refusal.
-#[derive(Clone, Copy)]
-pub enum Written {
-    Bytes(usize),
-    Refused(Refusal),
+impl fmt::Display for Refusal {
+    fn fmt<W: fmt::Write>(&self, f: &mut fmt::Formatter<W>) -> fmt::Result {
+        f.write_str(match self {
+            Refusal::WrongNumber => "wrong version, kind or rule",
+            Refusal::WrongLength => "wrong length",
+            Refusal::WrongTag => "wrong tag",
+            Refusal::TooHigh => "too high",
+            Refusal::TooMany => "too many formulas",
+            Refusal::HeldFull => "no room for a formula",
+            Refusal::BudgetSpent => "budget spent",
+            Refusal::FailuresFull => "no room for a failure",
+            Refusal::OutputShort => "output too short",
+            Refusal::WrongSetting => "wrong setting",
+            Refusal::WrongMemory => "memory not well-formed",
+        })
+    }
 }
 
-// What `is_positive` answers.
-#[derive(Clone, Copy)]
-pub enum Positive {
-    Is(bool),
-    Refused(Refusal),
-}
+impl Error for Refusal {}
 
 // What a tag is followed by.
-#[derive(Clone, Copy)]
+#[derive(Clone, Copy, Debug, PartialEq, Eq)]
 pub enum Form {
     Unit,
     Named,
@@ -64,33 +86,14 @@ pub enum Form {
 }
 
 // What is known at a formula's tag: the answer, or that one part or two are still to be read.
-#[derive(Clone, Copy)]
+#[derive(Clone, Copy, Debug, PartialEq, Eq)]
 pub enum Look {
-    Done(Read),
+    Done(Result<usize, Refusal>),
     One,
     Two,
 }
 
 pub const HIGHEST: usize = 64;
-
-// Document 01's number of a refusal.
-pub fn number(k: Refusal) -> u8
-    ensures { result ≡ number_of k }
-{
-    match k {
-        Refusal::WrongNumber => 2,
-        Refusal::WrongLength => 3,
-        Refusal::WrongTag => 4,
-        Refusal::TooHigh => 5,
-        Refusal::TooMany => 6,
-        Refusal::HeldFull => 7,
-        Refusal::BudgetSpent => 8,
-        Refusal::FailuresFull => 9,
-        Refusal::OutputShort => 10,
-        Refusal::WrongSetting => 11,
-        Refusal::WrongMemory => 12,
-    }
-}
 
 // Document 01's table of tags.
 pub fn form_of(tag: u8) -> Form
@@ -127,28 +130,28 @@ fn look_at(s: &[u8], at: usize, end: usize, levels: usize) -> Look
     ensures { Looked s.now at end levels result }
 {
     if at == end {
-        return Look::Done(Read::Refused(Refusal::WrongLength));
+        return Look::Done(Err(Refusal::WrongLength));
     }
     let form = form_of(s[at]);
     if levels == 0 {
-        return Look::Done(Read::Refused(above(form)));
+        return Look::Done(Err(above(form)));
     }
     match form {
-        Form::Unit => Look::Done(Read::Next(at + 1)),
+        Form::Unit => Look::Done(Ok(at + 1)),
         Form::Named => {
             if end - at < 3 {
-                return Look::Done(Read::Refused(Refusal::WrongLength));
+                return Look::Done(Err(Refusal::WrongLength));
             }
-            Look::Done(Read::Next(at + 3))
+            Look::Done(Ok(at + 3))
         }
         Form::Binary => Look::Two,
         Form::Unary => Look::One,
-        Form::Unknown => Look::Done(Read::Refused(Refusal::WrongTag)),
+        Form::Unknown => Look::Done(Err(Refusal::WrongTag)),
     }
 }
 
 // Reads a formula of at most `levels` levels that starts at `at`; its bytes end at `end`, though more may follow.
-pub fn read_formula(s: &[u8], at: usize, end: usize, levels: usize) -> Read
+pub fn read_formula(s: &[u8], at: usize, end: usize, levels: usize) -> Result<usize, Refusal>
     requires { (at ≤ end) × (end ≤ length s.now) }
     ensures { result ≡ reads end (read_formula levels (slice at end s.now)) }
 {
@@ -156,38 +159,33 @@ pub fn read_formula(s: &[u8], at: usize, end: usize, levels: usize) -> Read
         Look::Done(r) => r,
         Look::One => read_formula(s, at + 1, end, levels - 1),
         Look::Two => {
-            let first = read_formula(s, at + 1, end, levels - 1);
-            let Read::Next(second) = first else {
-                return first;
-            };
+            let second = read_formula(s, at + 1, end, levels - 1)?;
             read_formula(s, second, end, levels - 1)
         }
     }
 }
 
 // Reads one formula, the whole slice: leftover bytes are 3.
-pub fn read_one(s: &[u8]) -> Read
+pub fn read_one(s: &[u8]) -> Result<usize, Refusal>
     ensures { result ≡ reads (length s.now) (read_one s.now) }
 {
-    let r = read_formula(s, 0, s.len(), HIGHEST);
-    let Read::Next(next) = r else {
-        return r;
-    };
+    let next = read_formula(s, 0, s.len(), HIGHEST)?;
     if next == s.len() {
-        return r;
+        Ok(next)
+    } else {
+        Err(Refusal::WrongLength)
     }
-    Read::Refused(Refusal::WrongLength)
 }
 
 // formula.rs: `negate`.
-pub fn negate(s: &[u8], out: &mut [u8]) -> Written
+pub fn negate(s: &[u8], out: &mut [u8]) -> Result<usize, Refusal>
     ensures { Writes (λ f. write_formula (of.negate f)) s.now out.old result out.new }
 {
     rewrite::rewrite_one(s, out, How::Negate)
 }
 
 // formula.rs: `desugar`.
-pub fn desugar(s: &[u8], out: &mut [u8]) -> Written
+pub fn desugar(s: &[u8], out: &mut [u8]) -> Result<usize, Refusal>
     ensures { Writes (λ f. write_formula (of.desugar f)) s.now out.old result out.new }
 {
     rewrite::rewrite_one(s, out, How::Spell)
@@ -206,11 +204,9 @@ fn positive_tag(tag: u8) -> bool
 }
 
 // formula.rs: `is_positive`.
-pub fn is_positive(s: &[u8]) -> Positive
+pub fn is_positive(s: &[u8]) -> Result<bool, Refusal>
     ensures { result ≡ positive (read_one s.now) }
 {
-    match read_one(s) {
-        Read::Next(_) => Positive::Is(positive_tag(s[0])),
-        Read::Refused(k) => Positive::Refused(k),
-    }
+    read_one(s)?;
+    Ok(positive_tag(s[0]))
 }

@@ -4,10 +4,10 @@ ghost use Rattle.wire.specs.Write.{write_formula};
 ghost use Rattle.formula.specs.Calls.{Writes};
 ghost use Rattle.formula.specs.Rewriting.{rewritten, turned_of, left_of, Ready, Rewritten};
 
-use super::{Form, Read, Refusal, Written, form_of, read_one};
+use super::{Form, Refusal, form_of, read_one};
 
 // What becomes of a part: it stays, it is negated, its implications are spelled out, or those of its negation are.
-#[derive(Clone, Copy)]
+#[derive(Clone, Copy, Debug, PartialEq, Eq)]
 pub enum How {
     Copy,
     Negate,
@@ -73,16 +73,12 @@ fn rewrite(s: &[u8], at: usize, out: &mut [u8], how: How) -> usize
 }
 
 // The formula that the whole slice is, rewritten into the front of `out`.
-pub fn rewrite_one(s: &[u8], out: &mut [u8], how: How) -> Written
+pub fn rewrite_one(s: &[u8], out: &mut [u8], how: How) -> Result<usize, Refusal>
     ensures { Writes (λ f. write_formula (rewritten how f)) s.now out.old result out.new }
 {
-    match read_one(s) {
-        Read::Refused(k) => Written::Refused(k),
-        Read::Next(n) => {
-            if out.len() < n {
-                return Written::Refused(Refusal::OutputShort);
-            }
-            Written::Bytes(rewrite(s, 0, out, how))
-        }
+    let n = read_one(s)?;
+    if out.len() < n {
+        return Err(Refusal::OutputShort);
     }
+    Ok(rewrite(s, 0, out, how))
 }
