@@ -1,14 +1,15 @@
 -- Steps of negating a held formula and of spelling out an implication. Assumes nothing.
+use Rattle.std.specs.Prelude.{None, Option, Some}
+use Rattle.std.specs.Option.{is_some}
 use mathlib.Core.Path.{◌≡◌, refl, sym, ◌∙◌, ap}
 use mathlib.Core.Logic.{⊎_elim, ◌⊎◌, inl, inr}
-use mathlib.Core.Bool.{false}
+use mathlib.Core.Bool.{true, false}
 use mathlib.Core.List.{List, [], ◌∷◌}
 use Prim.Native.Nat.{ℕ, zero, suc, ◌+◌, ◌-◌, ◌≤◌, ◌<◌, max}
 use native.Mathlib.Omega.{arith}
 use native.Mathlib.Nat.{eq-or-lt_of_le, le_of_suc-le-suc, lt_of_lt_of_le}
 use lib.ListN.{get_or, length, set, length-set, length-append, replicate, length-replicate, get_or-replicate, get_or-eq_default}
 use lib.Seq.{get_or-set_same, get_or-set_other}
-use denote.Enum.Declared.{tag_of}
 use Rattle.logic.specs.Formula.{Formula, One, negate, spell, height, size, among}
 use Rattle.logic.specs.Parts.{make, negated_tag}
 use Rattle.logic.proofs.FormulaLaws.{negate_height, negate_size, spell_height, spell_size}
@@ -41,18 +42,12 @@ use Rattle.held.specs.Turn.{Memo, Turn, KnownAt, LeafAt, HalfAt, TwoAt, SingleAt
 use Rattle.held.specs.WordsLaws.{held_node, held_length, weights, keeps, extends_refl, extends_trans, among_true, row_low, row_weight_fits}
 use Rattle.held.specs.CutLaws.{cut_back}
 use Rattle.held.proofs.RowSteps.{row_left, row_right}
-use Rattle.held.specs.contracts.Added.{the_type as added_type}
 use Rattle.held.specs.declared.turn.Step.{Step}
 use Rattle.held.specs.declared.turn.Step.TheVariants as step
-use Rattle.held.specs.declared.Added.{Added}
-use Rattle.held.specs.declared.Added.TheVariants as added
 
-abbrev added_tag : Added → ℕ
-added_tag r = tag_of added_type r
-
-pub is_full : (r : Added) → added_tag r ≡ 1 → r ≡ added.Full
-is_full (added.At i) e = let z : ◌≡◌ {A = ℕ} 0 1 = e in absurd (omega arith)
-is_full added.Full e = refl
+pub is_none : (r : Option ℕ) → is_some r ≡ false → r ≡ None
+is_none (Some i) e = let z : ◌≡◌ {A = ℕ} 0 1 = cc in absurd (omega arith)
+is_none None e = refl
 
 -- formula x, with its row
 pub record RowOf (m : List ℕ) (x t a b : ℕ) : Type 0 where
@@ -121,16 +116,16 @@ memo_more m memo x i z l l' u h = record { sized = length-set memo x (i + 1) ∙
         rw (w, q) (l, (u, h))
     go k v e (inr f) = z.known k v (sym (get_or-set_other memo x k (i + 1) 0 f) ∙ e)
 
-pub at_small : (m : List ℕ) (f : Formula) (r : Added) (i : ℕ) (m' : List ℕ) → AddedTo m f r m' → r ≡ added.At i → i < 2048
+pub at_small : (m : List ℕ) (f : Formula) (r : Option ℕ) (i : ℕ) (m' : List ℕ) → AddedTo m f r m' → r ≡ Some i → i < 2048
 at_small m f r i m' x e = let w = rw e at x in lt_of_lt_of_le w.low w.wf.few
 
-pub finish_at : (m memo : List ℕ) (x t a b : ℕ) (r : Added) (i : ℕ) (m' : List ℕ) → Ready m memo x t a b → AddedTo m (node t a b (view m)) r m' → r ≡ added.At i → Stored m (negate (told m x)) i m' × Memo m' (set memo x (i + 1))
+pub finish_at : (m memo : List ℕ) (x t a b : ℕ) (r : Option ℕ) (i : ℕ) (m' : List ℕ) → Ready m memo x t a b → AddedTo m (node t a b (view m)) r m' → r ≡ Some i → Stored m (negate (told m x)) i m' × Memo m' (set memo x (i + 1))
 finish_at m memo x t a b r i m' z y e =
     let w : Stored m (negate (told m x)) i m' = rw (e, z.here) at y in
     let l = z.turn.low in
     (w, memo_more m' memo x i (memo_grows m m' memo w.grew z.turn.notes) (lt_of_lt_of_le l w.grew.more) (lt_of_lt_of_le l z.turn.wf.few) w.low (w.here ∙ ap negate (sym (keeps m m' w.grew x l))))
 
-pub finish_full : (m memo : List ℕ) (x t a b : ℕ) (r : Added) (m' : List ℕ) → Ready m memo x t a b → AddedTo m (node t a b (view m)) r m' → r ≡ added.Full → NoRoom m (negate (told m x)) m'
+pub finish_full : (m memo : List ℕ) (x t a b : ℕ) (r : Option ℕ) (m' : List ℕ) → Ready m memo x t a b → AddedTo m (node t a b (view m)) r m' → r ≡ None → NoRoom m (negate (told m x)) m'
 finish_full m memo x t a b r m' z y e = rw (e, z.here) at y
 
 -- what is held is entered already
@@ -193,12 +188,12 @@ ready_single m m' memo x t a f z l p z' n u ea k j h =
     }
 
 -- the whole entered
-pub closing : (m : List ℕ) (x : ℕ) (m' : List ℕ) (r : Added) (m'' memo : List ℕ) → x < count m → Extends m m' → Wf m' → enter (negate (told m x)) (view m) ≡ add (negate (told m x)) (view m') → Finished m' x r m'' memo → Turned m (negate (told m x)) r m'' memo
-closing m x m' (added.At i) m'' memo l p z' g y =
+pub closing : (m : List ℕ) (x : ℕ) (m' : List ℕ) (r : Option ℕ) (m'' memo : List ℕ) → x < count m → Extends m m' → Wf m' → enter (negate (told m x)) (view m) ≡ add (negate (told m x)) (view m') → Finished m' x r m'' memo → Turned m (negate (told m x)) r m'' memo
+closing m x m' (Some i) m'' memo l p z' g y =
     let w = y.0 in
     let q = ap negate (keeps m m' p x l) in
     (record { wf = w.wf; grew = extends_trans p w.grew; all = w.all ∙ (ap (λ f. add f (view m')) q ∙ sym g); low = w.low; here = w.here ∙ q }, y.1)
-closing m x m' added.Full m'' memo l p z' g y =
+closing m x m' None m'' memo l p z' g y =
     let q = ap negate (keeps m m' p x l) in
     let new : among (negate (told m x)) (view m') ≡ false = ap (λ f. among f (view m')) (sym q) ∙ y.new in
     let long : length (enter (negate (told m x)) (view m)) ≡ length (view m') + 1 = ap length g ∙ (ap length (add_unknown (negate (told m x)) (view m') new) ∙ length-append (view m') (negate (told m x) ∷ [])) in
@@ -235,7 +230,7 @@ module _ (m memo : List ℕ) (x t a b : ℕ) (z : Turn m memo x) (w : TwoAt m x 
   two_ready m₁ memo₁ i m₂ memo₂ j y v =
       ready_pair m m₂ memo₂ x t i j (negate (told m a)) (negate (told m b)) z.wf z.low (extends_trans y.0.grew v.0.grew) v.0.wf v.1 (lt_of_lt_of_le y.0.low v.0.grew.more) v.0.low (keeps m₁ m₂ v.0.grew i y.0.low ∙ y.0.here) (v.0.here ∙ ap negate (two_same m₁ memo₁ i y)) w.low w.high w.here
 
-  pub two_close : (m₁ memo₁ : List ℕ) (i : ℕ) (m₂ memo₂ : List ℕ) (j : ℕ) (r : Added) (m₃ memo₃ : List ℕ) → Entered m (negate (told m a)) i m₁ × Memo m₁ memo₁ → Entered m₁ (negate (told m₁ b)) j m₂ × Memo m₂ memo₂ → Finished m₂ x r m₃ memo₃ → Turned m (negate (told m x)) r m₃ memo₃
+  pub two_close : (m₁ memo₁ : List ℕ) (i : ℕ) (m₂ memo₂ : List ℕ) (j : ℕ) (r : Option ℕ) (m₃ memo₃ : List ℕ) → Entered m (negate (told m a)) i m₁ × Memo m₁ memo₁ → Entered m₁ (negate (told m₁ b)) j m₂ × Memo m₂ memo₂ → Finished m₂ x r m₃ memo₃ → Turned m (negate (told m x)) r m₃ memo₃
   two_close m₁ memo₁ i m₂ memo₂ j r m₃ memo₃ y v u =
       let e = ap negate (two_same m₁ memo₁ i y) in
       let all : view m₂ ≡ enter (negate (told m b)) (enter (negate (told m a)) (view m)) = v.0.all ∙ (ap (λ f. enter f (view m₁)) e ∙ ap (λ fs. enter (negate (told m b)) fs) y.0.all) in
@@ -253,7 +248,7 @@ module _ (m memo : List ℕ) (x a b : ℕ) (z : Turn m memo x) (w : HalfAt m x a
       let l : a < count m = omega (arith, z.low, w.left) in
       ready_pair m m₁ memo₁ x 6 a j (told m a) (negate (told m b)) z.wf z.low y.0.grew y.0.wf y.1 (lt_of_lt_of_le l y.0.grew.more) y.0.low (keeps m m₁ y.0.grew a l) y.0.here (omega arith) (omega arith) w.here
 
-  pub half_close : (m₁ memo₁ : List ℕ) (j : ℕ) (r : Added) (m₂ memo₂ : List ℕ) → Entered m (negate (told m b)) j m₁ × Memo m₁ memo₁ → Finished m₁ x r m₂ memo₂ → Turned m (negate (told m x)) r m₂ memo₂
+  pub half_close : (m₁ memo₁ : List ℕ) (j : ℕ) (r : Option ℕ) (m₂ memo₂ : List ℕ) → Entered m (negate (told m b)) j m₁ × Memo m₁ memo₁ → Finished m₁ x r m₂ memo₂ → Turned m (negate (told m x)) r m₂ memo₂
   half_close m₁ memo₁ j r m₂ memo₂ y u = closing m x m₁ r m₂ memo₂ z.low y.0.grew y.0.wf (half_all ∙ ap (λ fs. add (negate (told m x)) fs) (sym y.0.all)) u
 
 module _ (m memo : List ℕ) (x t a : ℕ) (z : Turn m memo x) (w : SingleAt m x t a) where
@@ -266,10 +261,10 @@ module _ (m memo : List ℕ) (x t a : ℕ) (z : Turn m memo x) (w : SingleAt m x
   pub single_ready : (m₁ memo₁ : List ℕ) (j : ℕ) → Entered m (negate (told m a)) j m₁ × Memo m₁ memo₁ → Ready m₁ memo₁ x t j 0
   single_ready m₁ memo₁ j y = ready_single m m₁ memo₁ x t j (negate (told m a)) z.wf z.low y.0.grew y.0.wf y.1 y.0.low y.0.here w.low w.high w.here
 
-  pub single_close : (m₁ memo₁ : List ℕ) (j : ℕ) (r : Added) (m₂ memo₂ : List ℕ) → Entered m (negate (told m a)) j m₁ × Memo m₁ memo₁ → Finished m₁ x r m₂ memo₂ → Turned m (negate (told m x)) r m₂ memo₂
+  pub single_close : (m₁ memo₁ : List ℕ) (j : ℕ) (r : Option ℕ) (m₂ memo₂ : List ℕ) → Entered m (negate (told m a)) j m₁ × Memo m₁ memo₁ → Finished m₁ x r m₂ memo₂ → Turned m (negate (told m x)) r m₂ memo₂
   single_close m₁ memo₁ j r m₂ memo₂ y u = closing m x m₁ r m₂ memo₂ z.low y.0.grew y.0.wf (single_all ∙ ap (λ fs. add (negate (told m x)) fs) (sym y.0.all)) u
 
-pub leaf_close : (m memo : List ℕ) (x t a : ℕ) (r : Added) (m₂ memo₂ : List ℕ) → Turn m memo x → LeafAt m x t a → Finished m x r m₂ memo₂ → Turned m (negate (told m x)) r m₂ memo₂
+pub leaf_close : (m memo : List ℕ) (x t a : ℕ) (r : Option ℕ) (m₂ memo₂ : List ℕ) → Turn m memo x → LeafAt m x t a → Finished m x r m₂ memo₂ → Turned m (negate (told m x)) r m₂ memo₂
 leaf_close m memo x t a r m₂ memo₂ z w u = closing m x m r m₂ memo₂ z.low (extends_refl m) z.wf w.alone u
 
 pub leaf_ready : (m memo : List ℕ) (x t a : ℕ) → Turn m memo x → LeafAt m x t a → Ready m memo x t a 0
@@ -292,10 +287,10 @@ module _ (m : List ℕ) (x : ℕ) (r : Step) (y : StepOf m x r) where
   pub as_single : (t a : ℕ) → r ≡ step.Single t a → SingleAt m x t a
   as_single t a e = rw e at y
 
-pub turned_at : (m : List ℕ) (f : Formula) (r : Added) (m' memo' : List ℕ) (i : ℕ) → Turned m f r m' memo' → r ≡ added.At i → Entered m f i m' × Memo m' memo'
+pub turned_at : (m : List ℕ) (f : Formula) (r : Option ℕ) (m' memo' : List ℕ) (i : ℕ) → Turned m f r m' memo' → r ≡ Some i → Entered m f i m' × Memo m' memo'
 turned_at m f r m' memo' i y e = rw e at y
 
-pub turned_full : (m : List ℕ) (f : Formula) (r : Added) (m' memo' : List ℕ) → Turned m f r m' memo' → r ≡ added.Full → Over m f m'
+pub turned_full : (m : List ℕ) (f : Formula) (r : Option ℕ) (m' memo' : List ℕ) → Turned m f r m' memo' → r ≡ None → Over m f m'
 turned_full m f r m' memo' y e = rw e at y
 
 pub part_turn : (m memo : List ℕ) (x a : ℕ) → Turn m memo x → a < x → Turn m memo a
@@ -314,7 +309,7 @@ blank_at n k = ⊎_elim (λ l. get_or-eq_default (blank n) 0 (rw (blank_length n
 pub blank_turn : (n : ℕ) → n ≡ most → (m : List ℕ) (x : ℕ) → Wf m → x < count m → Turn m (blank n) x
 blank_turn n q m x z l = record { wf = z; low = l; notes = record { sized = blank_length n ∙ q; known = λ k v e. absurd (omega (arith, e, blank_at n k)) } }
 
-pub cut_refused : (m : List ℕ) (f : Formula) (r : Added) (m₁ memo₁ m₂ : List ℕ) → Wf m → Turned m f r m₁ memo₁ → r ≡ added.Full → TakenBack m₁ (count m) m₂ → Refused m f m₂
+pub cut_refused : (m : List ℕ) (f : Formula) (r : Option ℕ) (m₁ memo₁ m₂ : List ℕ) → Wf m → Turned m f r m₁ memo₁ → r ≡ None → TakenBack m₁ (count m) m₂ → Refused m f m₂
 cut_refused m f r m₁ memo₁ m₂ z y e w = let o = turned_full m f r m₁ memo₁ y e in record { same = cut_back m m₁ m₂ z o.grew w; over = o.over }
 
 -- spelling out an implication
@@ -368,26 +363,30 @@ module _ (m : List ℕ) (x a b : ℕ) (z : Implication m x) (ea : a ≡ at m x 1
     spell_all : enter (spell (told m x)) (view m) ≡ add (spell (told m x)) (view m₁)
     spell_all = spell_enter ∙ ap (add (spell (told m x))) (rw (← y.all, ← right_kept) (enter_held m₁ y.wf b right_low))
 
-    pub spell_entered : (r : Added) (j : ℕ) (m₂ : List ℕ) → AddedTo m₁ (node 7 i b (view m₁)) r m₂ → r ≡ added.At j → Entered m (spell (told m x)) j m₂
+    spell_entered : (r : Option ℕ) (j : ℕ) (m₂ : List ℕ) → AddedTo m₁ (node 7 i b (view m₁)) r m₂ → r ≡ Some j → Entered m (spell (told m x)) j m₂
     spell_entered r j m₂ w e =
         let v : Stored m₁ (spell (told m x)) j m₂ = rw (e, spell_node) at w in
         record { wf = v.wf; grew = extends_trans y.grew v.grew; all = v.all ∙ sym spell_all; low = v.low; here = v.here }
 
-    spell_full : (r : Added) (m₂ : List ℕ) → AddedTo m₁ (node 7 i b (view m₁)) r m₂ → r ≡ added.Full → NoRoom m₁ (spell (told m x)) m₂
+    pub spell_done : (r : Option ℕ) (m₂ : List ℕ) → AddedTo m₁ (node 7 i b (view m₁)) r m₂ → is_some r ≡ true → EnteredOr m (spell (told m x)) r m₂
+    spell_done (Some j) m₂ w e = spell_entered (Some j) j m₂ w refl
+    spell_done None m₂ w e = let q : ◌≡◌ {A = ℕ} 0 1 = cc in absurd (omega arith)
+
+    spell_full : (r : Option ℕ) (m₂ : List ℕ) → AddedTo m₁ (node 7 i b (view m₁)) r m₂ → r ≡ None → NoRoom m₁ (spell (told m x)) m₂
     spell_full r m₂ w e = rw (e, spell_node) at w
 
-    pub spell_cut : (r : Added) (m₂ : List ℕ) → AddedTo m₁ (node 7 i b (view m₁)) r m₂ → r ≡ added.Full → Wf m₂ × (count m ≤ count m₂)
+    pub spell_cut : (r : Option ℕ) (m₂ : List ℕ) → AddedTo m₁ (node 7 i b (view m₁)) r m₂ → r ≡ None → Wf m₂ × (count m ≤ count m₂)
     spell_cut r m₂ w e = let v = spell_full r m₂ w e in rw v.same (y.wf, y.grew.more)
 
-    pub spell_refused : (r : Added) (m₂ m₃ : List ℕ) → AddedTo m₁ (node 7 i b (view m₁)) r m₂ → r ≡ added.Full → TakenBack m₂ (count m) m₃ → Refused m (spell (told m x)) m₃
+    pub spell_refused : (r : Option ℕ) (m₂ m₃ : List ℕ) → AddedTo m₁ (node 7 i b (view m₁)) r m₂ → r ≡ None → TakenBack m₂ (count m) m₃ → Refused m (spell (told m x)) m₃
     spell_refused r m₂ m₃ w e t =
         let v = spell_full r m₂ w e in
         let long : length (enter (spell (told m x)) (view m)) ≡ length (view m₁) + 1 = ap length spell_all ∙ (ap length (add_unknown (spell (told m x)) (view m₁) v.new) ∙ length-append (view m₁) (spell (told m x) ∷ [])) in
         record { same = cut_back m m₂ m₃ z.wf (rw v.same y.grew) t; over = omega (arith, long, held_length m₁ (count m₁), v.full) }
 
 -- the cases of an answer
-pub entered_at : (m : List ℕ) (f : Formula) (r : Added) (i : ℕ) (m' : List ℕ) → EnteredOr m f r m' → r ≡ added.At i → Entered m f i m'
+pub entered_at : (m : List ℕ) (f : Formula) (r : Option ℕ) (i : ℕ) (m' : List ℕ) → EnteredOr m f r m' → r ≡ Some i → Entered m f i m'
 entered_at m f r i m' y e = rw e at y
 
-pub entered_full : (m : List ℕ) (f : Formula) (r : Added) (m' : List ℕ) → EnteredOr m f r m' → r ≡ added.Full → Refused m f m'
+pub entered_full : (m : List ℕ) (f : Formula) (r : Option ℕ) (m' : List ℕ) → EnteredOr m f r m' → r ≡ None → Refused m f m'
 entered_full m f r m' y e = rw e at y

@@ -1,16 +1,10 @@
 -- What the functions on rows, order words and entries answer. Assumes nothing: these are definitions.
-use Rattle.std.specs.Prelude.{◌≡◌, Bool, true, false, List, [], ℕ, ◌+◌, ◌*◌, ◌≤◌, ◌<◌, max, get_or, length, eqb}
+use Rattle.std.specs.Prelude.{◌≡◌, Bool, true, false, List, [], ℕ, ◌+◌, ◌*◌, ◌≤◌, ◌<◌, max, get_or, length, eqb, Err, None, Ok, Option, Result, Some}
 use Rattle.logic.specs.Formula.{Formula, among}
 use Rattle.logic.specs.Held.{add}
 use Rattle.held.specs.Words.{at, order_at, code, code_at, count, most, words, orders, view, told, Row, Zeros, Wf, Agree, Extends}
-use Rattle.held.specs.declared.Found.{Found}
-use Rattle.held.specs.declared.Found.TheVariants as found
-use Rattle.held.specs.declared.Added.{Added}
-use Rattle.held.specs.declared.Added.TheVariants as added
 use Rattle.held.specs.declared.rows.Weight.{Weight}
 use Rattle.held.specs.declared.rows.Weight.TheVariants as weight
-use Rattle.held.specs.declared.order.Located.{Located}
-use Rattle.held.specs.declared.order.Located.TheVariants as located
 
 -- a bool that tells whether a claim holds
 abbrev pub Tells : Bool → Type 0 → Type 0
@@ -64,9 +58,9 @@ pub record Gap (m : List ℕ) (n c p : ℕ) : Type 0 where
   pub above : (j : ℕ) → p ≤ j → j < n → c < code_at m (order_at m j)
 
 -- which of the first n formulas has the code c, or where its order word would go
-abbrev pub LocatedIn : List ℕ → ℕ → ℕ → Located → Type 0
-LocatedIn m n c (located.At i) = (i < n) × (code_at m i ≡ c)
-LocatedIn m n c (located.Free p) = Gap m n c p
+abbrev pub LocatedIn : List ℕ → ℕ → ℕ → Result ℕ ℕ → Type 0
+LocatedIn m n c (Ok i) = (i < n) × (code_at m i ≡ c)
+LocatedIn m n c (Err p) = Gap m n c p
 
 -- v put at place p of n order words, and nothing else changed
 pub record Inserted (m : List ℕ) (n p v : ℕ) (m' : List ℕ) : Type 0 where
@@ -123,9 +117,9 @@ pub record Entry (m : List ℕ) (n p t a b : ℕ) : Type 0 where
   pub gap : Gap m n (code t a b) p
 
 -- which number the formula f has
-abbrev pub NumberOf : List ℕ → Formula → Found → Type 0
-NumberOf m f (found.At i) = (i < count m) × (told m i ≡ f)
-NumberOf m f found.Nothing = (i : ℕ) → i < count m → told m i ≡ f → ⊥
+abbrev pub NumberOf : List ℕ → Formula → Option ℕ → Type 0
+NumberOf m f (Some i) = (i < count m) × (told m i ≡ f)
+NumberOf m f None = (i : ℕ) → i < count m → told m i ≡ f → ⊥
 
 -- the formula f is held: nothing changes, or it stands last; or there is no room, and nothing changes
 pub record Stored (m : List ℕ) (f : Formula) (i : ℕ) (m' : List ℕ) : Type 0 where
@@ -140,9 +134,9 @@ pub record NoRoom (m : List ℕ) (f : Formula) (m' : List ℕ) : Type 0 where
   pub full : count m ≡ most
   pub new : among f (view m) ≡ false
 
-abbrev pub AddedTo : List ℕ → Formula → Added → List ℕ → Type 0
-AddedTo m f (added.At i) m' = Stored m f i m'
-AddedTo m f added.Full m' = NoRoom m f m'
+abbrev pub AddedTo : List ℕ → Formula → Option ℕ → List ℕ → Type 0
+AddedTo m f (Some i) m' = Stored m f i m'
+AddedTo m f None m' = NoRoom m f m'
 
 -- the formulas from n on taken back
 pub record TakenBack (m : List ℕ) (n : ℕ) (m' : List ℕ) : Type 0 where

@@ -1,5 +1,5 @@
 -- What negating a held formula and spelling out an implication answer. Assumes nothing: these are definitions.
-use Rattle.std.specs.Prelude.{◌≡◌, List, ℕ, ◌+◌, ◌≤◌, ◌<◌, get_or, length}
+use Rattle.std.specs.Prelude.{◌≡◌, List, ℕ, ◌+◌, ◌≤◌, ◌<◌, get_or, length, None, Option, Some}
 use Rattle.logic.specs.Formula.{Formula, One, negate}
 use Rattle.logic.specs.Parts.{make}
 use Rattle.logic.specs.Held.{add, enter}
@@ -8,8 +8,6 @@ use Rattle.held.specs.Words.{at, count, view, told, Wf, Extends, most}
 use Rattle.held.specs.Answers.{Next, Stored, NoRoom}
 use Rattle.held.specs.declared.turn.Step.{Step}
 use Rattle.held.specs.declared.turn.Step.TheVariants as step
-use Rattle.held.specs.declared.Added.{Added}
-use Rattle.held.specs.declared.Added.TheVariants as added
 
 -- a word k of the memo that is no zero is one more than the number of the negation of formula k
 pub record Memo (m memo : List ℕ) : Type 0 where
@@ -35,18 +33,18 @@ pub record Over (m : List ℕ) (f : Formula) (m' : List ℕ) : Type 0 where
   pub grew : Extends m m'
   pub over : most < length (enter f (view m))
 
-abbrev pub Turned : List ℕ → Formula → Added → List ℕ → List ℕ → Type 0
-Turned m f (added.At i) m' memo' = Entered m f i m' × Memo m' memo'
-Turned m f added.Full m' memo' = Over m f m'
+abbrev pub Turned : List ℕ → Formula → Option ℕ → List ℕ → List ℕ → Type 0
+Turned m f (Some i) m' memo' = Entered m f i m' × Memo m' memo'
+Turned m f None m' memo' = Over m f m'
 
 -- the same with nothing changed where there is no room
 pub record Refused (m : List ℕ) (f : Formula) (m' : List ℕ) : Type 0 where
   pub same : m' ≡ m
   pub over : most < length (enter f (view m))
 
-abbrev pub EnteredOr : List ℕ → Formula → Added → List ℕ → Type 0
-EnteredOr m f (added.At i) m' = Entered m f i m'
-EnteredOr m f added.Full m' = Refused m f m'
+abbrev pub EnteredOr : List ℕ → Formula → Option ℕ → List ℕ → Type 0
+EnteredOr m f (Some i) m' = Entered m f i m'
+EnteredOr m f None m' = Refused m f m'
 
 -- what negating formula x takes
 pub record KnownAt (m : List ℕ) (x i : ℕ) : Type 0 where
@@ -88,9 +86,9 @@ pub record Ready (m memo : List ℕ) (x t a b : ℕ) : Type 0 where
   pub next : Next m t a b
   pub here : node t a b (view m) ≡ negate (told m x)
 
-abbrev pub Finished : List ℕ → ℕ → Added → List ℕ → List ℕ → Type 0
-Finished m x (added.At i) m' memo' = Stored m (negate (told m x)) i m' × Memo m' memo'
-Finished m x added.Full m' memo' = NoRoom m (negate (told m x)) m'
+abbrev pub Finished : List ℕ → ℕ → Option ℕ → List ℕ → List ℕ → Type 0
+Finished m x (Some i) m' memo' = Stored m (negate (told m x)) i m' × Memo m' memo'
+Finished m x None m' memo' = NoRoom m (negate (told m x)) m'
 
 -- formula x is an implication
 pub record Implication (m : List ℕ) (x : ℕ) : Type 0 where

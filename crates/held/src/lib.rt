@@ -9,20 +9,6 @@ pub mod order; // order.rt: finding a formula's place among the order words, and
 pub mod entry; // entry.rt: the well-formed test, reset, look-up, entering, taking back
 pub mod turn; // turn.rt: negating a held formula, and spelling out an implication
 
-// Which number a formula has.
-#[derive(Clone, Copy)]
-pub enum Found {
-    At(usize),
-    Nothing,
-}
-
-// A formula entered, or found; or no room for it.
-#[derive(Clone, Copy)]
-pub enum Added {
-    At(usize),
-    Full,
-}
-
 // How many formulas there is room for.
 pub const MOST: usize = 2048;
 

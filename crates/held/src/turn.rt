@@ -5,7 +5,6 @@ ghost use Rattle.logic.specs.Parts.{negated_tag};
 ghost use Rattle.held.specs.Words.{count, told, Wf};
 ghost use Rattle.held.specs.Turn.{Turn, StepOf, Ready, Finished, Turned, EnteredOr, Implication};
 
-use super::Added;
 use super::entry::{add, cut};
 use super::words::field;
 
@@ -52,80 +51,72 @@ fn step_of(mem: &[u16], memo: &[u16], x: usize) -> Step
 }
 
 // Enters the negation of formula x, whose parts are held, and notes its number.
-fn finish(mem: &mut [u16], memo: &mut [u16], x: usize, tag: usize, a: usize, b: usize) -> Added
+fn finish(
+    mem: &mut [u16],
+    memo: &mut [u16],
+    x: usize,
+    tag: usize,
+    a: usize,
+    b: usize,
+) -> Option<usize>
     requires { Ready mem.old memo.old x tag a b }
     ensures { Finished mem.old x result mem.new memo.new }
 {
-    let r = add(mem, tag, a, b);
-    if let Added::At(i) = r {
-        memo[x] = (i + 1) as u16;
-        return Added::At(i);
-    }
-    Added::Full
+    let i = add(mem, tag, a, b)?;
+    memo[x] = (i + 1) as u16;
+    Some(i)
 }
 
 // Enters the negation of formula x with its parts (formula.rs: `negate`), each shared part once.
-fn negated(mem: &mut [u16], memo: &mut [u16], x: usize) -> Added
+fn negated(mem: &mut [u16], memo: &mut [u16], x: usize) -> Option<usize>
     requires { Turn mem.old memo.old x }
     ensures { Turned mem.old (negate (told mem.old x)) result mem.new memo.new }
 {
     match step_of(mem, memo, x) {
-        Step::Known(i) => Added::At(i),
+        Step::Known(i) => Some(i),
         Step::Leaf(t, a) => finish(mem, memo, x, t, a, 0),
         Step::Half(a, b) => {
-            let Added::At(nb) = negated(mem, memo, b) else {
-                return Added::Full;
-            };
+            let nb = negated(mem, memo, b)?;
             finish(mem, memo, x, 6, a, nb)
         }
         Step::Two(t, a, b) => {
-            let Added::At(na) = negated(mem, memo, a) else {
-                return Added::Full;
-            };
-            let Added::At(nb) = negated(mem, memo, b) else {
-                return Added::Full;
-            };
+            let na = negated(mem, memo, a)?;
+            let nb = negated(mem, memo, b)?;
             finish(mem, memo, x, t, na, nb)
         }
         Step::Single(t, a) => {
-            let Added::At(na) = negated(mem, memo, a) else {
-                return Added::Full;
-            };
+            let na = negated(mem, memo, a)?;
             finish(mem, memo, x, t, na, 0)
         }
     }
 }
 
 // Enters the negation of formula x with its parts, or leaves every word as it is.
-pub fn negate_held(mem: &mut [u16], x: usize) -> Added
+pub fn negate_held(mem: &mut [u16], x: usize) -> Option<usize>
     requires { (Wf mem.old) × (x < count mem.old) }
     ensures { EnteredOr mem.old (negate (told mem.old x)) result mem.new }
 {
     let n = mem[0] as usize;
     let mut memo = [0u16; 2048];
     let r = negated(mem, &mut memo, x);
-    if let Added::At(i) = r {
-        return Added::At(i);
+    if r.is_none() {
+        cut(mem, n);
     }
-    cut(mem, n);
-    Added::Full
+    r
 }
 
 // Spells out the implication x at its top (search.rs: `prove_async` at a `Lolli`): enters `Par(left negated, right)` with its parts, or leaves every word as it is.
-pub fn spell_held(mem: &mut [u16], x: usize) -> Added
+pub fn spell_held(mem: &mut [u16], x: usize) -> Option<usize>
     requires { Implication mem.old x }
     ensures { EnteredOr mem.old (spell (told mem.old x)) result mem.new }
 {
     let n = mem[0] as usize;
     let a = field(mem, x, 1);
     let b = field(mem, x, 2);
-    let Added::At(na) = negate_held(mem, a) else {
-        return Added::Full;
-    };
+    let na = negate_held(mem, a)?;
     let r = add(mem, 7, na, b);
-    if let Added::At(i) = r {
-        return Added::At(i);
+    if r.is_none() {
+        cut(mem, n);
     }
-    cut(mem, n);
-    Added::Full
+    r
 }

@@ -1,3 +1,4 @@
+use borrow.Author.Rules.{rules}
 use native.Mathlib.Omega.{arith}
 use Rattle.held.proofs.TurnSteps.{as_known, as_leaf, as_half, as_two, as_single, turned_at, turned_full, turned_known, part_turn, leaf_ready, leaf_close, half_over, half_ready, half_close, two_first, two_over, two_over_2, two_ready, two_close, single_over, single_ready, single_close}
 use Rattle.held.proofs.turn.+negated.Goals as goal
@@ -11,35 +12,35 @@ finish-requires t c = leaf_ready _ _ _ _ _ c.requires (as_leaf _ _ c.step_of.res
 pub negated-requires : goal.negated-requires
 negated-requires t c = let w = (as_half _ _ c.step_of.result c.step_of.ensures _ _ c.in-Half.is) in (omega (arith, w.right, c.decreases), part_turn _ _ _ _ c.requires w.right)
 
-pub returns-in_default : goal.returns-in_default
-returns-in_default t c = half_over _ _ _ _ _ c.requires (as_half _ _ c.step_of.result c.step_of.ensures _ _ c.in-Half.is) _ (turned_full _ _ c.negated.result _ _ c.negated.ensures c.in_default.is)
+pub returns-in_err-nb-in-Half : goal.returns-in_err-nb-in-Half
+returns-in_err-nb-in-Half t c = let h = half_over _ _ _ _ _ c.requires (as_half _ _ c.step_of.result c.step_of.ensures _ _ c.in-Half.is) _ (turned_full _ _ c.negated.result _ _ c.negated.ensures c.in_err-nb-in-Half.was) in search rules
 
 pub finish-requires-in-Half : goal.finish-requires-in-Half
-finish-requires-in-Half t c = half_ready _ _ _ _ _ c.requires (as_half _ _ c.step_of.result c.step_of.ensures _ _ c.in-Half.is) _ _ _ (turned_at _ _ c.negated.result _ _ _ c.negated.ensures c.in-At.is)
+finish-requires-in-Half t c = half_ready _ _ _ _ _ c.requires (as_half _ _ c.step_of.result c.step_of.ensures _ _ c.in-Half.is) _ _ _ (turned_at _ _ c.negated.result _ _ _ c.negated.ensures c.in_ok-nb-in-Half.was)
 
 pub negated-requires-in-Two : goal.negated-requires-in-Two
 negated-requires-in-Two t c = let w = (as_two _ _ c.step_of.result c.step_of.ensures _ _ _ c.in-Two.is) in (omega (arith, w.left, c.decreases), part_turn _ _ _ _ c.requires w.left)
 
-pub returns-in_default-negated : goal.returns-in_default-negated
-returns-in_default-negated t c = two_over _ _ _ _ _ _ c.requires (as_two _ _ c.step_of.result c.step_of.ensures _ _ _ c.in-Two.is) _ (turned_full _ _ c.negated-in-Two.result _ _ c.negated-in-Two.ensures c.in_default-negated.is)
+pub returns-in_err-na-in-Two : goal.returns-in_err-na-in-Two
+returns-in_err-na-in-Two t c = let h = two_over _ _ _ _ _ _ c.requires (as_two _ _ c.step_of.result c.step_of.ensures _ _ _ c.in-Two.is) _ (turned_full _ _ c.negated-in-Two.result _ _ c.negated-in-Two.ensures c.in_err-na-in-Two.was) in search rules
 
 pub negated-requires-in-Two-2 : goal.negated-requires-in-Two-2
-negated-requires-in-Two-2 t c = let w = (as_two _ _ c.step_of.result c.step_of.ensures _ _ _ c.in-Two.is) in (omega (arith, w.right, c.decreases), two_first _ _ _ _ _ _ c.requires w _ _ _ (turned_at _ _ c.negated-in-Two.result _ _ _ c.negated-in-Two.ensures c.in-At-negated.is))
+negated-requires-in-Two-2 t c = let w = (as_two _ _ c.step_of.result c.step_of.ensures _ _ _ c.in-Two.is) in (omega (arith, w.right, c.decreases), two_first _ _ _ _ _ _ c.requires w _ _ _ (turned_at _ _ c.negated-in-Two.result _ _ _ c.negated-in-Two.ensures c.in_ok-na-in-Two.was))
 
-pub returns-in_default-negated-2 : goal.returns-in_default-negated-2
-returns-in_default-negated-2 t c = two_over_2 _ _ _ _ _ _ c.requires (as_two _ _ c.step_of.result c.step_of.ensures _ _ _ c.in-Two.is) _ _ _ _ (turned_at _ _ c.negated-in-Two.result _ _ _ c.negated-in-Two.ensures c.in-At-negated.is) (turned_full _ _ c.negated-in-Two-2.result _ _ c.negated-in-Two-2.ensures c.in_default-negated-2.is)
+pub returns-in_err-nb-in-Two : goal.returns-in_err-nb-in-Two
+returns-in_err-nb-in-Two t c = let h = two_over_2 _ _ _ _ _ _ c.requires (as_two _ _ c.step_of.result c.step_of.ensures _ _ _ c.in-Two.is) _ _ _ _ (turned_at _ _ c.negated-in-Two.result _ _ _ c.negated-in-Two.ensures c.in_ok-na-in-Two.was) (turned_full _ _ c.negated-in-Two-2.result _ _ c.negated-in-Two-2.ensures c.in_err-nb-in-Two.was) in search rules
 
 pub finish-requires-in-Two : goal.finish-requires-in-Two
-finish-requires-in-Two t c = two_ready _ _ _ _ _ _ c.requires (as_two _ _ c.step_of.result c.step_of.ensures _ _ _ c.in-Two.is) _ _ _ _ _ _ (turned_at _ _ c.negated-in-Two.result _ _ _ c.negated-in-Two.ensures c.in-At-negated.is) (turned_at _ _ c.negated-in-Two-2.result _ _ _ c.negated-in-Two-2.ensures c.in-At-negated-2.is)
+finish-requires-in-Two t c = two_ready _ _ _ _ _ _ c.requires (as_two _ _ c.step_of.result c.step_of.ensures _ _ _ c.in-Two.is) _ _ _ _ _ _ (turned_at _ _ c.negated-in-Two.result _ _ _ c.negated-in-Two.ensures c.in_ok-na-in-Two.was) (turned_at _ _ c.negated-in-Two-2.result _ _ _ c.negated-in-Two-2.ensures c.in_ok-nb-in-Two.was)
 
 pub negated-requires-in-Single : goal.negated-requires-in-Single
 negated-requires-in-Single t c = let w = (as_single _ _ c.step_of.result c.step_of.ensures _ _ c.in-Single.is) in (omega (arith, w.left, c.decreases), part_turn _ _ _ _ c.requires w.left)
 
-pub returns-in_default-negated-3 : goal.returns-in_default-negated-3
-returns-in_default-negated-3 t c = single_over _ _ _ _ _ c.requires (as_single _ _ c.step_of.result c.step_of.ensures _ _ c.in-Single.is) _ (turned_full _ _ c.negated-in-Single.result _ _ c.negated-in-Single.ensures c.in_default-negated-3.is)
+pub returns-in_err-na-in-Single : goal.returns-in_err-na-in-Single
+returns-in_err-na-in-Single t c = let h = single_over _ _ _ _ _ c.requires (as_single _ _ c.step_of.result c.step_of.ensures _ _ c.in-Single.is) _ (turned_full _ _ c.negated-in-Single.result _ _ c.negated-in-Single.ensures c.in_err-na-in-Single.was) in search rules
 
 pub finish-requires-in-Single : goal.finish-requires-in-Single
-finish-requires-in-Single t c = single_ready _ _ _ _ _ c.requires (as_single _ _ c.step_of.result c.step_of.ensures _ _ c.in-Single.is) _ _ _ (turned_at _ _ c.negated-in-Single.result _ _ _ c.negated-in-Single.ensures c.in-At-negated-3.is)
+finish-requires-in-Single t c = single_ready _ _ _ _ _ c.requires (as_single _ _ c.step_of.result c.step_of.ensures _ _ c.in-Single.is) _ _ _ (turned_at _ _ c.negated-in-Single.result _ _ _ c.negated-in-Single.ensures c.in_ok-na-in-Single.was)
 
 pub returns-in-Known : goal.returns-in-Known
 returns-in-Known t c = turned_known _ _ _ _ c.requires (as_known _ _ c.step_of.result c.step_of.ensures _ c.in-Known.is)
@@ -47,11 +48,11 @@ returns-in-Known t c = turned_known _ _ _ _ c.requires (as_known _ _ c.step_of.r
 pub returns-in-Leaf : goal.returns-in-Leaf
 returns-in-Leaf t c = leaf_close _ _ _ _ _ c.finish.result _ _ c.requires (as_leaf _ _ c.step_of.result c.step_of.ensures _ _ c.in-Leaf.is) c.finish.ensures
 
-pub returns-in-At : goal.returns-in-At
-returns-in-At t c = half_close _ _ _ _ _ c.requires (as_half _ _ c.step_of.result c.step_of.ensures _ _ c.in-Half.is) _ _ _ c.finish-in-Half.result _ _ (turned_at _ _ c.negated.result _ _ _ c.negated.ensures c.in-At.is) c.finish-in-Half.ensures
+pub returns-in_ok-nb-in-Half : goal.returns-in_ok-nb-in-Half
+returns-in_ok-nb-in-Half t c = half_close _ _ _ _ _ c.requires (as_half _ _ c.step_of.result c.step_of.ensures _ _ c.in-Half.is) _ _ _ c.finish-in-Half.result _ _ (turned_at _ _ c.negated.result _ _ _ c.negated.ensures c.in_ok-nb-in-Half.was) c.finish-in-Half.ensures
 
-pub returns-in-At-negated-2 : goal.returns-in-At-negated-2
-returns-in-At-negated-2 t c = two_close _ _ _ _ _ _ c.requires (as_two _ _ c.step_of.result c.step_of.ensures _ _ _ c.in-Two.is) _ _ _ _ _ _ c.finish-in-Two.result _ _ (turned_at _ _ c.negated-in-Two.result _ _ _ c.negated-in-Two.ensures c.in-At-negated.is) (turned_at _ _ c.negated-in-Two-2.result _ _ _ c.negated-in-Two-2.ensures c.in-At-negated-2.is) c.finish-in-Two.ensures
+pub returns-in_ok-nb-in-Two : goal.returns-in_ok-nb-in-Two
+returns-in_ok-nb-in-Two t c = two_close _ _ _ _ _ _ c.requires (as_two _ _ c.step_of.result c.step_of.ensures _ _ _ c.in-Two.is) _ _ _ _ _ _ c.finish-in-Two.result _ _ (turned_at _ _ c.negated-in-Two.result _ _ _ c.negated-in-Two.ensures c.in_ok-na-in-Two.was) (turned_at _ _ c.negated-in-Two-2.result _ _ _ c.negated-in-Two-2.ensures c.in_ok-nb-in-Two.was) c.finish-in-Two.ensures
 
-pub returns-in-At-negated-3 : goal.returns-in-At-negated-3
-returns-in-At-negated-3 t c = single_close _ _ _ _ _ c.requires (as_single _ _ c.step_of.result c.step_of.ensures _ _ c.in-Single.is) _ _ _ c.finish-in-Single.result _ _ (turned_at _ _ c.negated-in-Single.result _ _ _ c.negated-in-Single.ensures c.in-At-negated-3.is) c.finish-in-Single.ensures
+pub returns-in_ok-na-in-Single : goal.returns-in_ok-na-in-Single
+returns-in_ok-na-in-Single t c = single_close _ _ _ _ _ c.requires (as_single _ _ c.step_of.result c.step_of.ensures _ _ c.in-Single.is) _ _ _ c.finish-in-Single.result _ _ (turned_at _ _ c.negated-in-Single.result _ _ _ c.negated-in-Single.ensures c.in_ok-na-in-Single.was) c.finish-in-Single.ensures
