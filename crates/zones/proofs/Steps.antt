@@ -1,4 +1,4 @@
--- The loops over a zone's items, step by step: items that move down by one, and items that are kept by the bits of a mask. Assumes nothing.
+-- Items that move down by one, and the loop that keeps items by the bits of a mask, step by step. Assumes nothing.
 use mathlib.Core.Path.{◌≡◌, refl, sym, ap, ◌∙◌}
 use mathlib.Core.Bool.{Bool, true, false}
 use mathlib.Core.List.{List, [], ◌∷◌, ◌++◌, append_assoc, append-nil}
@@ -8,53 +8,30 @@ use native.Mathlib.Nat.{add-zero}
 use native.Mathlib.Omega.{arith}
 use lib.Dec.{eqb, leb}
 use lib.ListN.{get_or, set, length, take, drop, length-set, drop_of_length-le}
-use lib.Seq.{length-take-le, take-suc, take-take, drop-cons, take-suc-set, take-set-le, get_or-set_other, get_or-take, set_split, take-set-lt}
+use lib.Seq.{length-take-le, take-take, drop-cons, take-suc-set, take-set-le, get_or-set_other, get_or-take, set_split, take-set-lt}
+use Rattle.std.specs.List.{copy_within}
+use Rattle.std.proofs.lemmas.List.Edits.{take-paste}
+use Rattle.std.proofs.lemmas.Slice.{between_is}
+use Rattle.std.proofs.Common.{length-drop}
+use lib.Seq.{paste}
+use mir.Val.{bool_byte}
 use Rattle.zones.specs.declared.Zones.{Zones}
-use Rattle.zones.specs.ZonesLaws.{remove_snoc, remove_length, remove_at, made}
+use Rattle.zones.specs.ZonesLaws.{remove_length, remove_at, made}
 use Rattle.zones.specs.Zones.{Fits, Made, Shifted, without, replaced, pushed, only, split, without_unrestricted, pushed_unrestricted, remove, replace, keep, as_number, bit, past, part}
 
--- the loop of `shift_down`: the items before place k have moved, and those after it stand as at first
-pub record Moving (items : List ℕ) (i last k : ℕ) (r : List ℕ) : Type 0 where
-  pub sized : length r ≡ length items
-  pub low : i ≤ k
-  pub high : k ≤ last
-  pub moved : take k r ≡ remove i (take (suc k) items)
-  pub ahead : (j : ℕ) → k < j → get_or r j 0 ≡ get_or items j 0
-
-pub moving_start : (items : List ℕ) (i last : ℕ) → i ≤ last → last < length items → Moving items i last i items
-moving_start items i last h g = record {
-  sized = refl;
-  low = omega arith;
-  high = h;
-  moved =
-      sym
-      (ap (λ (l : List ℕ). take i (take (suc i) items) ++ l) (drop_of_length-le (take (suc i) items) {i = suc i} (omega (arith, length-take-le (suc i) items (omega arith))))
-      ∙ append-nil _
-      ∙ take-take i (suc i) items (omega arith));
-  ahead = λ j l. refl;
-}
-
-module _ {items : List ℕ} {i last k : ℕ} {r : List ℕ} (m : Moving items i last k r) where
-  pub moving_step : last < length items → k < last → Moving items i last (k + 1) (set r k (get_or r (k + 1) 0))
-  moving_step g h = record {
-    sized = length-set r k _ ∙ m.sized;
-    low = omega (arith, m.low);
-    high = omega arith;
-    moved =
-        rw add-one
-        (take-suc-set r k _ (omega (arith, m.sized))
-        ∙ ap (λ (l : List ℕ). l ++ (get_or r (suc k) 0 ∷ [])) m.moved
-        ∙ ap (λ (a : ℕ). remove i (take (suc k) items) ++ (a ∷ [])) (m.ahead (suc k) (omega arith))
-        ∙ sym (remove_snoc (take (suc k) items) i _ (omega (arith, m.low, length-take-le (suc k) items (omega arith))))
-        ∙ ap (remove i) (sym (take-suc items (suc k) 0 (omega arith))));
-    ahead = λ j l. get_or-set_other r k j _ 0 (λ e. omega arith) ∙ m.ahead j (omega arith);
-  }
-
-  pub moving_end : last ≤ k → Shifted items i last r
-  moving_end h = let e : k ≡ last = omega (arith, m.high) in record {
-    sized = m.sized;
-    moved = rw e at m.moved;
-  }
+-- what `shift_down` copies
+pub shifted : {items r : List ℕ} {i last : ℕ} → i ≤ last → last < length items → length r ≡ length items → r ≡ copy_within items (i + 1) (last + 1) i → Shifted items i last r
+shifted {items} {r} {i} {last} h g l e =
+    let n : i + (last + 1 - (i + 1)) ≡ last = omega arith in
+    let m : last + 1 - (i + 1) ≡ suc last - suc i = omega arith in
+    record {
+      sized = l;
+      moved =
+          ap (take last) e
+          ∙ sym (ap (λ (k : ℕ). take k (paste items i (drop (i + 1) items) (last + 1 - (i + 1)))) n)
+          ∙ take-paste items i (drop (i + 1) items) (last + 1 - (i + 1)) (omega arith) (omega (arith, length-drop (i + 1) items))
+          ∙ rw (m, add-one i, between_is items (suc i) (suc last), take-take i (suc last) items (omega arith)) refl;
+    }
 
 -- the loop of `part`, over the first n items without the one at place i: those before place k are dealt with, `to` of them kept, and the items from k on stand as at first
 pub record Keeping (side i mask : ℕ) (items : List ℕ) (n : ℕ) (r : List ℕ) (m to k : ℕ) : Type 0 where
@@ -77,6 +54,11 @@ as_number_le false = omega arith
 
 pub bit_le : (side mask : ℕ) → bit side mask ≤ 1
 bit_le side mask = as_number_le (eqb (mask % 2) side)
+
+-- the code's number of a test
+pub as_byte : (b : Bool) → bool_byte b ≡ as_number b
+as_byte true = refl
+as_byte false = refl
 
 pub past_le : (i k : ℕ) → past i k ≤ 1
 past_le i k = as_number_le (leb i k)

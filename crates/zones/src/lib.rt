@@ -3,7 +3,7 @@
 #![tactic(auto)]
 
 ghost use Rattle.std.specs.Prelude.{◌≡◌, ◌+◌, ◌<◌, ◌≤◌, length};
-ghost use Rattle.zones.specs.Zones.{linears, unrestricteds, bit, past, Fits, Made, Empty, Shifted, without, replaced, pushed, only, split, without_unrestricted, pushed_unrestricted};
+ghost use Rattle.zones.specs.Zones.{linears, unrestricteds, Fits, Made, Empty, Shifted, without, replaced, pushed, only, split, without_unrestricted, pushed_unrestricted};
 
 #[derive(Clone, Copy)]
 pub struct Zones {
@@ -18,37 +18,17 @@ fn shift_down(items: &mut [u16; 31], i: usize, last: usize)
     requires { (length items.old ≡ 31) × ((i ≤ last) × (last < 31)) }
     ensures { Shifted items.old i last items.new }
 {
-    let mut k = i;
-    while k < last {
-        items[k] = items[k + 1];
-        k += 1;
-    }
-}
-
-// 1 from place i on, and else 0.
-fn skipped(i: usize, k: usize) -> usize
-    ensures { result ≡ past i k }
-{
-    if i <= k { 1 } else { 0 }
-}
-
-// 1 where the lowest bit of the mask is `side`, and else 0.
-fn chosen(mask: usize, side: usize) -> usize
-    ensures { result ≡ bit side mask }
-{
-    if mask % 2 == side { 1 } else { 0 }
+    items.copy_within(i + 1..last + 1, i);
 }
 
 impl Zones {
     pub fn empty() -> Zones
         ensures { Empty result }
     {
-        let linear = [0u16; 31];
-        let unrestricted = [0u16; 31];
         Zones {
-            linear,
+            linear: [0; 31],
             linear_len: 0,
-            unrestricted,
+            unrestricted: [0; 31],
             unrestricted_len: 0,
         }
     }
@@ -62,95 +42,78 @@ impl Zones {
     }
 
     // `linear.remove(i)`
-    pub fn without(self, i: usize) -> Zones
+    pub fn without(mut self, i: usize) -> Zones
         requires { Fits self × (i < self.linear_len) }
         ensures { Made self (without i) result }
     {
-        let last = self.linear_len - 1;
-        let mut z = self;
-        shift_down(&mut z.linear, i, last);
-        z.linear_len = last;
-        z
+        self.linear_len -= 1;
+        shift_down(&mut self.linear, i, self.linear_len);
+        self
     }
 
     // `unrestricted.remove(i)`
-    pub fn without_unrestricted(self, i: usize) -> Zones
+    pub fn without_unrestricted(mut self, i: usize) -> Zones
         requires { Fits self × (i < self.unrestricted_len) }
         ensures { Made self (without_unrestricted i) result }
     {
-        let last = self.unrestricted_len - 1;
-        let mut z = self;
-        shift_down(&mut z.unrestricted, i, last);
-        z.unrestricted_len = last;
-        z
+        self.unrestricted_len -= 1;
+        shift_down(&mut self.unrestricted, i, self.unrestricted_len);
+        self
     }
 
     // `linear.push(a)`
-    pub fn pushed(self, a: u16) -> Zones
+    pub fn pushed(mut self, a: u16) -> Zones
         requires { Fits self × (self.linear_len + self.unrestricted_len < 31) }
         ensures { Made self (pushed a) result }
     {
-        let n = self.linear_len;
-        let mut z = self;
-        z.linear[n] = a;
-        z.linear_len = n + 1;
-        z
+        self.linear[self.linear_len] = a;
+        self.linear_len += 1;
+        self
     }
 
     // `unrestricted.push(a)`
-    pub fn pushed_unrestricted(self, a: u16) -> Zones
+    pub fn pushed_unrestricted(mut self, a: u16) -> Zones
         requires { Fits self × (self.linear_len + self.unrestricted_len < 31) }
         ensures { Made self (pushed_unrestricted a) result }
     {
-        let n = self.unrestricted_len;
-        let mut z = self;
-        z.unrestricted[n] = a;
-        z.unrestricted_len = n + 1;
-        z
+        self.unrestricted[self.unrestricted_len] = a;
+        self.unrestricted_len += 1;
+        self
     }
 
     // `linear[i] = a`
-    pub fn replaced(self, i: usize, a: u16) -> Zones
+    pub fn replaced(mut self, i: usize, a: u16) -> Zones
         requires { Fits self × (i < self.linear_len) }
         ensures { Made self (replaced i a) result }
     {
-        let mut z = self;
-        z.linear[i] = a;
-        z
+        self.linear[i] = a;
+        self
     }
 
     // `linear: vec![a]`
-    pub fn only(self, a: u16) -> Zones
+    pub fn only(mut self, a: u16) -> Zones
         requires { Fits self × (self.unrestricted_len < 31) }
         ensures { Made self (only a) result }
     {
-        let mut z = self;
-        z.linear[0] = a;
-        z.linear_len = 1;
-        z
+        self.linear[0] = a;
+        self.linear_len = 1;
+        self
     }
 
     // A premise of a tensor at place i, in one pass: of the other linear items those whose bit of the mask is `side`, in order, then a.
-    fn part(self, i: usize, mask: usize, side: usize, a: u16) -> Zones
+    fn part(mut self, i: usize, mut mask: usize, side: usize, a: u16) -> Zones
         requires { Fits self × (i < self.linear_len) }
         ensures { Made self (split side i mask a) result }
     {
-        let last = self.linear_len - 1;
-        let mut z = self;
-        let mut m = mask;
         let mut to = 0;
-        let mut k = 0;
-        while k < last {
-            let from = k + skipped(i, k);
-            let x = z.linear[from];
-            z.linear[to] = x;
-            to += chosen(m, side);
-            m = m / 2;
-            k += 1;
+        for k in 0..self.linear_len - 1 {
+            self.linear[to] = self.linear[k + usize::from(i <= k)];
+            to += usize::from(mask % 2 == side);
+            mask /= 2;
         }
-        z.linear[to] = a;
-        z.linear_len = to + 1;
-        z
+        self.linear[to] = a;
+        self.linear_len = to + 1;
+        self
     }
 
     // The left premise of a tensor at place i: `all_splits` without it, then a.
