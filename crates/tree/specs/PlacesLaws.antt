@@ -1,5 +1,6 @@
 -- Laws of `Places`: what the code's places hold where something written stands. Assumes nothing.
-use Rattle.std.specs.Prelude.{◌≡◌, refl, ◌⊎◌}
+use Rattle.std.specs.Prelude.{◌≡◌, refl, ◌⊎◌, Result, Ok, Err}
+use Rattle.std.specs.Result.{result_unwrap_or}
 use Rattle.std.proofs.Common.{sym, ◌∙◌, ⊎_elim}
 use Rattle.std.proofs.Math.Path.{ap, subst}
 use mathlib.Core.List.{List, ◌∷◌, ◌++◌, append_assoc, append-nil}
@@ -44,8 +45,6 @@ use Rattle.wire.proofs.FormulaBytes.{length_write, read_write}
 use Rattle.formula.specs.Answers.{reads}
 use Rattle.formula.specs.ReadingLaws.{reached}
 use Rattle.formula.specs.declared.Refusal.{Refusal}
-use Rattle.formula.specs.declared.Read as code
-use Rattle.formula.specs.declared.Read.TheVariants as read
 use Rattle.tree.specs.Stands.{Stands}
 use Rattle.tree.specs.StandsLaws.{stands_left, stands_right, stands_head, stands_tail, stands_inside, stands_join, stands_slice}
 use Rattle.tree.specs.Places.{FormulaAt, follow, rule_number, argument_bytes, Passed, ZoneFound, ArgumentPassed, NodeIs, NodeFound, TreePassed}
@@ -55,30 +54,38 @@ use Rattle.tree.specs.declared.Node.{Node}
 -- ---- a formula passed
 
 -- a formula that stands there is read, and what follows is the next place
-formula_there : (s : List ℕ) (at end : ℕ) (f : Formula) → FormulaAt s at f → at + size f ≤ end → end ≤ length s → reads end (read_formula highest_formula (slice at end s)) ≡ read.Next (at + size f)
+formula_there : (s : List ℕ) (at end : ℕ) (f : Formula) → FormulaAt s at f → at + size f ≤ end → end ≤ length s → reads end (read_formula highest_formula (slice at end s)) ≡ Ok (at + size f)
 unfolding reads
 formula_there s at end f h k k' =
     let n : length (write_formula f) ≡ size f = length_write f in
     let next : end - length (slice (at + length (write_formula f)) end s) ≡ at + size f = rw (length-slice (at + length (write_formula f)) end s k') (omega arith) in
-    rw (stands_slice end h.stands (omega arith) k', read_write highest_formula f (slice (at + length (write_formula f)) end s) h.fits.height_fits h.fits.names_fit) (ap read.Next next)
+    rw (stands_slice end h.stands (omega arith) k', read_write highest_formula f (slice (at + length (write_formula f)) end s) h.fits.height_fits h.fits.names_fit) (ap Ok next)
 
-module _ (s : List ℕ) (at end : ℕ) (here : at < end) (inside : end ≤ length s) {x : code.Read} (e : x ≡ reads end (read_formula highest_formula (slice at end s))) where
-  pub passed_next : Bytes s → {next : ℕ} → x ≡ read.Next next → Passed s at end next
+module _ (s : List ℕ) (at end : ℕ) (here : at < end) (inside : end ≤ length s) {x : Result ℕ Refusal} (e : x ≡ reads end (read_formula highest_formula (slice at end s))) where
+  pub passed_next : Bytes s → {next : ℕ} → x ≡ Ok next → Passed s at end next
   passed_next bytes {next} e' =
       let there = reached s bytes end inside highest_formula at next (omega arith) (sym e ∙ e') in
       record {
         further = omega (arith, there.after, size_positive there.formula);
         within = there.within;
-        past = λ f h k. let n : read.Next next ≡ read.Next (at + size f) = sym e' ∙ e ∙ formula_there s at end f h k inside in (cc);
+        past = λ f h k. let n : Ok next ≡ Ok (at + size f) = sym e' ∙ e ∙ formula_there s at end f h k inside in (cc);
       }
 
-  pub passed_refused : {why : Refusal} → x ≡ read.Refused why → Passed s at end end
+  pub passed_refused : {why : Refusal} → x ≡ Err why → Passed s at end end
   passed_refused e' =
       record {
         further = here;
         within = omega arith;
-        past = λ f h k. let n : read.Refused _ ≡ read.Next (at + size f) = sym e' ∙ e ∙ formula_there s at end f h k inside in let z : ◌≡◌ {A = ℕ} 0 1 = cc in absurd (omega arith);
+        past = λ f h k. let n : Err _ ≡ Ok (at + size f) = sym e' ∙ e ∙ formula_there s at end f h k inside in let z : ◌≡◌ {A = ℕ} 0 1 = cc in absurd (omega arith);
       }
+
+  -- the next place, and `end` where the formula is refused
+  pub passed_or : Bytes s → {r : ℕ} → r ≡ result_unwrap_or x end → Passed s at end r
+  passed_or bytes {r} k = go x refl k
+    where
+      go : (y : Result ℕ Refusal) → x ≡ y → r ≡ result_unwrap_or y end → Passed s at end r
+      go (Ok next) here k = rw k (passed_next bytes here)
+      go (Err why) here k = rw k (passed_refused here)
 
 -- ---- a rule's argument
 

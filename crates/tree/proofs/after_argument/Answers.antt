@@ -1,18 +1,19 @@
 use mathlib.Core.Logic.{inl, inr}
+use native.Mathlib.Omega.{arith}
 use Rattle.tree.specs.PlacesLaws.{argument_none, argument_lacking, argument_formula, argument_two}
 use Rattle.tree.proofs.after_argument.Goals as goal
 
 pub returns-then-at-s : goal.returns-then-at-s
-returns-then-at-s c = argument_lacking c.args.s.now c.args.at c.args.rule c.requires c.if-rule-eq-CUT.true c.if-at-s.true
+returns-then-at-s c = argument_lacking c.args.s.now c.args.at c.args.rule c.requires c.in-1.is c.if-at-s.true
 
-pub returns-then-rule-eq-CUT : goal.returns-then-rule-eq-CUT
-returns-then-rule-eq-CUT c = argument_formula c.args.s.now c.args.at c.args.rule c.requires c.if-rule-eq-CUT.true c.next_formula.ensures
+pub returns-else-at-s : goal.returns-else-at-s
+returns-else-at-s c = argument_formula c.args.s.now c.args.at c.args.rule c.requires c.in-1.is c.next_formula.ensures
 
-pub returns-then-rule-lt-FOCUS_POSITIVE : goal.returns-then-rule-lt-FOCUS_POSITIVE
-returns-then-rule-lt-FOCUS_POSITIVE c = argument_none c.args.s.now c.args.at c.args.rule c.requires c.if-rule-eq-CUT.false (inl c.if-rule-lt-FOCUS_POSITIVE.true)
+pub returns-in-15-to-16 : goal.returns-in-15-to-16
+returns-in-15-to-16 c = argument_two c.args.s.now c.args.at c.args.rule c.requires (omega arith) (omega arith) c.after.ensures
 
-pub returns-then-rule-ge-BLUR : goal.returns-then-rule-ge-BLUR
-returns-then-rule-ge-BLUR c = argument_none c.args.s.now c.args.at c.args.rule c.requires c.if-rule-eq-CUT.false (inr c.if-rule-ge-BLUR.true)
+pub returns-in_default : goal.returns-in_default
+returns-in_default c = argument_none c.args.s.now c.args.at c.args.rule c.requires (λ e. omega (arith, e)) (inl (omega arith))
 
-pub returns : goal.returns
-returns c = argument_two c.args.s.now c.args.at c.args.rule c.requires c.if-rule-lt-FOCUS_POSITIVE.false c.if-rule-ge-BLUR.false c.after.ensures
+pub returns-in_default-2 : goal.returns-in_default-2
+returns-in_default-2 c = argument_none c.args.s.now c.args.at c.args.rule c.requires (λ e. omega (arith, e)) (inr (omega arith))

@@ -1,6 +1,8 @@
-use mathlib.Core.Path.{sym}
+use native.Mathlib.Omega.{arith}
+use Rattle.std.proofs.lemmas.Grind.{common_steps}
+use Rattle.std.proofs.lemmas.Option.{gets}
 use lib.ListN.{get_or-eq_default}
 use Rattle.tree.proofs.byte_at.Goals as goal
 
-pub returns-else-at-s : goal.returns-else-at-s
-returns-else-at-s c = sym (get_or-eq_default c.args.s.now 0 c.if-at-s.false)
+pub returns : goal.returns
+returns c = grind (arith, common_steps, gets, get_or-eq_default)

@@ -1,8 +1,9 @@
+use borrow.Author.Rules.{rules}
 use Rattle.tree.specs.ReadingLaws.{depth_refused, depth_measured}
 use Rattle.tree.proofs.depth.Goals as goal
 
-pub returns-in-Refused : goal.returns-in-Refused
-returns-in-Refused c = depth_refused _ _ c.read_tree.ensures c.in-Refused.is
+pub returns-in_err-read_tree : goal.returns-in_err-read_tree
+returns-in_err-read_tree c = let h = depth_refused _ _ c.read_tree.ensures c.in_err-read_tree.was in search rules
 
-pub returns-in-Whole : goal.returns-in-Whole
-returns-in-Whole c = depth_measured _ _ c.read_tree.ensures c.in-Whole.is
+pub returns : goal.returns
+returns c = depth_measured _ _ c.read_tree.ensures c.in_ok-read_tree.was
