@@ -1,5 +1,5 @@
 -- The words are settled by what they say, and each call's answer and words by what it promises: no second result meets the promise. Assumes nothing.
-use Rattle.std.specs.Prelude.{◌≡◌, refl, Bool, true, false, List, map, get_or}
+use Rattle.std.specs.Prelude.{◌≡◌, refl, Bool, true, false, List, map, get_or, None, Option, Some}
 use Rattle.std.proofs.Math.Path.{sym, ap}
 use Rattle.std.proofs.Common.{subst, ◌∙◌, arith, get_or-take, get_or-drop}
 use Rattle.std.proofs.Math.Logic.{⊎_elim}
@@ -23,8 +23,6 @@ use Rattle.memory.specs.Meaning.{words, formula_words, failure_words, holds, hel
 use Rattle.memory.specs.MeaningLaws.{holds_length}
 use Rattle.memory.specs.PartsLaws.{parts_once}
 use Rattle.memory.specs.Shapes.{Spelled, SpelledOr, Filed, was_known, is_new, Recorded, NoPlace, RecordedOr}
-use Rattle.memory.specs.declared.shape.Spelling.{Spelling}
-use Rattle.memory.specs.declared.shape.Spelling.TheVariants.{At, Full}
 
 -- one state, one image: two well-formed memories with the same formulas, and failures that no look-up tells apart, are the same words
 module _ (m m' : List ℕ) (z : Wf m) (z' : Wf m') (e : holds m ≡ holds m') where
@@ -104,11 +102,11 @@ module _ (m : List ℕ) (f : Formula) (m' m'' : List ℕ) where
       let e = sym (spelled_words i j a b) in
       (formula_laws.number_once (formula_words m') a.wf.formulas i j a.low (subst (λ w. j < held_count w) e b.low)).0 (a.here ∙ sym (subst (λ w. told w j ≡ f) e b.here))
 
-  pub spelled_once : (r s : Spelling) → SpelledOr m f r m' → SpelledOr m f s m'' → (r ≡ s) × (m' ≡ m'')
-  spelled_once (At i) (At j) a b = (ap At (spelled_number i j a b), spelled_words i j a b)
-  spelled_once (At i) Full a b = absurd (omega (arith, a.room, b.full))
-  spelled_once Full (At j) a b = absurd (omega (arith, a.full, b.room))
-  spelled_once Full Full a b = (refl, a.same ∙ sym b.same)
+  pub spelled_once : (r s : Option ℕ) → SpelledOr m f r m' → SpelledOr m f s m'' → (r ≡ s) × (m' ≡ m'')
+  spelled_once (Some i) (Some j) a b = (ap Some (spelled_number i j a b), spelled_words i j a b)
+  spelled_once (Some i) None a b = absurd (omega (arith, a.room, b.full))
+  spelled_once None (Some j) a b = absurd (omega (arith, a.full, b.room))
+  spelled_once None None a b = (refl, a.same ∙ sym b.same)
 
 -- a failure recorded
 filed_alike : {ks : List Key} {k : Key} {js ls : List Key} → Filed ks k js → Filed ks k ls → Alike js ls

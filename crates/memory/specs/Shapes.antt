@@ -1,5 +1,5 @@
 -- What the memory's calls answer: a formula's sign with its parts, an implication spelled out, a failure recorded. Assumes nothing: these are definitions.
-use Rattle.std.specs.Prelude.{◌≡◌, Bool, true, false, List, ℕ, ◌≤◌, ◌<◌, length}
+use Rattle.std.specs.Prelude.{◌≡◌, Bool, true, false, List, ℕ, ◌≤◌, ◌<◌, length, None, Option, Some}
 use Rattle.logic.specs.Formula as formula
 use Rattle.logic.specs.Formula.{Formula}
 use Rattle.logic.specs.Key.{Key, contains}
@@ -8,8 +8,6 @@ use Rattle.failures.specs.Failed.{AsKnown, AsNew}
 use Rattle.memory.specs.Meaning.{Wf, Grew, holds, held_count, told, failed}
 use Rattle.memory.specs.declared.shape.Shape.{Shape}
 use Rattle.memory.specs.declared.shape.Shape.TheVariants as shape
-use Rattle.memory.specs.declared.shape.Spelling.{Spelling}
-use Rattle.memory.specs.declared.shape.Spelling.TheVariants.{At, Full}
 
 -- formula x is made of two held ones by a sign, or of one
 pub record OfTwo (m : List ℕ) (x : ℕ) (sign : Formula → Formula → Formula) (a b : ℕ) : Type 0 where
@@ -58,9 +56,9 @@ pub record NoRoom (m : List ℕ) (f : Formula) (m' : List ℕ) : Type 0 where
   pub same : m' ≡ m
   pub full : 2048 < length (enter f (holds m))
 
-abbrev pub SpelledOr : List ℕ → Formula → Spelling → List ℕ → Type 0
-SpelledOr m f (At i) m' = Spelled m f i m'
-SpelledOr m f Full m' = NoRoom m f m'
+abbrev pub SpelledOr : List ℕ → Formula → Option ℕ → List ℕ → Type 0
+SpelledOr m f (Some i) m' = Spelled m f i m'
+SpelledOr m f None m' = NoRoom m f m'
 
 -- the key k has been recorded: it was known, or it is new; or there is no room, and nothing changes
 pub data Filed (ks : List Key) (k : Key) (js : List Key) : Type 0 where

@@ -14,9 +14,8 @@ pub fn known(mem: &[u16], z: Zones) -> bool
     requires { Wf mem.now × StandsIn mem.now z }
     ensures { result ≡ contains (failed mem.now) (key_of mem.now z) }
 {
-    let n = FORMULAS;
-    let s = items_of(&mem[..n], z);
-    failures::records::known(&mem[n..], s)
+    let s = items_of(&mem[..FORMULAS], z);
+    failures::records::known(&mem[FORMULAS..], s)
 }
 
 // `self.cache.insert(key)`. False: it is new, and there is no room.
@@ -24,8 +23,7 @@ pub fn record_failure(mem: &mut [u16], z: Zones) -> bool
     requires { Wf mem.old × StandsIn mem.old z }
     ensures { RecordedOr mem.old (key_of mem.old z) result mem.new }
 {
-    let n = FORMULAS;
-    let s = items_of(&mem[..n], z);
-    let r = failures::records::record_failure(&mut mem[n..], s);
-    if let Noted::Full = r { false } else { true }
+    let s = items_of(&mem[..FORMULAS], z);
+    let r = failures::records::record_failure(&mut mem[FORMULAS..], s);
+    !matches!(r, Noted::Full)
 }

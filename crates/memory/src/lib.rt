@@ -20,14 +20,9 @@ pub const WRONG_MEMORY: u8 = 12;
 pub fn well_formed(mem: &[u16]) -> bool
     ensures { Tells result (Wf mem.now) }
 {
-    if mem.len() != WORDS {
-        return false;
-    }
-    let n = FORMULAS;
-    if !held::entry::well_formed(&mem[..n]) {
-        return false;
-    }
-    failures::form::well_formed(&mem[..n], &mem[n..])
+    mem.len() == WORDS
+        && held::entry::well_formed(&mem[..FORMULAS])
+        && failures::form::well_formed(&mem[..FORMULAS], &mem[FORMULAS..])
 }
 
 // No formula and no failure is held: 0. Any words of the right length may be lent; words of another length stay as they are: 12.
@@ -37,8 +32,7 @@ pub fn reset(mem: &mut [u16]) -> u8
     if mem.len() != WORDS {
         return WRONG_MEMORY;
     }
-    let n = FORMULAS;
-    held::entry::reset(&mut mem[..n]);
-    failures::form::reset(&mut mem[n..]);
+    held::entry::reset(&mut mem[..FORMULAS]);
+    failures::form::reset(&mut mem[FORMULAS..]);
     0
 }

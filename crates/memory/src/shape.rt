@@ -24,18 +24,11 @@ pub enum Shape {
     WhyNot(u16),
 }
 
-// The number of an implication spelled out; or no room for it with its parts.
-#[derive(Clone, Copy)]
-pub enum Spelling {
-    At(u16),
-    Full,
-}
-
 pub fn shape_at(mem: &[u16], x: u16) -> Shape
     requires { Wf mem.now × (x < held_count mem.now) }
     ensures { ShapeOf mem.now x result }
 {
-    let at = 1 + 5 * (x as usize);
+    let at = 1 + 5 * x as usize;
     let tag = mem[at];
     let a = mem[at + 1];
     let b = mem[at + 2];
@@ -56,15 +49,11 @@ pub fn shape_at(mem: &[u16], x: u16) -> Shape
     }
 }
 
-// search.rs: `prove_async` at a Lolli: `Par(left negated, right)` is entered with its parts, or every word stays as it is.
-pub fn spell(mem: &mut [u16], x: u16) -> Spelling
+// search.rs: `prove_async` at a Lolli: `Par(left negated, right)` is entered with its parts; or there is no room for them, and every word stays as it is.
+pub fn spell(mem: &mut [u16], x: u16) -> Option<u16>
     requires { Implication mem.old x }
     ensures { SpelledOr mem.old (spell (told mem.old x)) result mem.new }
 {
-    let n = FORMULAS;
-    let g = held::turn::spell_held(&mut mem[..n], x as usize);
-    if let held::Added::At(i) = g {
-        return Spelling::At(i as u16);
-    }
-    Spelling::Full
+    let i = held::turn::spell_held(&mut mem[..FORMULAS], x as usize)?;
+    Some(i as u16)
 }

@@ -2,6 +2,7 @@ use native.Mathlib.Omega.{arith}
 use Rattle.memory.specs.MeaningLaws.{wf_length}
 use Rattle.memory.proofs.FailedSteps.{sequent_named, lent_kept, recorded, no_place}
 use Rattle.memory.proofs.failed.record_failure.Goals as goal
+use Rattle.memory.proofs.failed.record_failure.Goals.{in-Full, in_default}
 
 pub slice_bounds-items_of-end : goal.slice_bounds-items_of-end
 slice_bounds-items_of-end c = omega (arith, wf_length _ c.requires.0)
@@ -18,8 +19,9 @@ slice_bounds-record_failure-start c = omega (arith, wf_length _ c.requires.0)
 pub record_failure-r-requires : goal.record_failure-r-requires
 record_failure-r-requires c = (lent_kept _ c.requires.0, c.items_of-s.ensures.fits)
 
-pub returns-in-Full : goal.returns-in-Full
-returns-in-Full c = no_place _ c.requires.0 c.requires.1 c.items_of-s.ensures c.record_failure-r.result _ c.in-Full.is c.record_failure-r.ensures
-
-pub returns-in_default : goal.returns-in_default
-returns-in_default c = recorded _ c.requires.0 c.requires.1 c.items_of-s.ensures c.record_failure-r.result _ c.in_default.not-Full c.record_failure-r.ensures
+pub returns : goal.returns
+returns c =
+    elim c.match-matches.branch [
+      | in-Full w ↦ rw w.matches-is (no_place _ c.requires.0 c.requires.1 c.items_of-s.ensures c.record_failure-r.result _ w.in-Full.is c.record_failure-r.ensures)
+      | in_default w ↦ rw w.matches-is (recorded _ c.requires.0 c.requires.1 c.items_of-s.ensures c.record_failure-r.result _ w.in_default.not-Full c.record_failure-r.ensures)
+    ]
