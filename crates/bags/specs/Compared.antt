@@ -1,6 +1,6 @@
 -- What the comparison of two formulas in a message answers: whether they are the same, each read its own way, and the places after them. A contract speaks of any formulas that stand at
 -- the two places. Assumes nothing.
-use Rattle.std.specs.Prelude.{◌≡◌, Bool, true, false, ◌&&◌, List, ℕ, ◌+◌, ◌≤◌, min, eqb, length, get_or}
+use Rattle.std.specs.Prelude.{◌≡◌, Bool, true, false, ◌&&◌, Option, Some, None, List, ℕ, ◌+◌, ◌≤◌, min, eqb, length, get_or}
 use Rattle.logic.specs.Formula.{Formula, same, size, height}
 use Rattle.logic.specs.Parts.{tag_of}
 use Rattle.logic.specs.Legal.{as_number}
@@ -9,8 +9,6 @@ use Rattle.tree.specs.Stands.{Stands}
 use Rattle.tree.specs.Places.{FormulaAt}
 use Rattle.bags.specs.Reading.{read_as, named, binary, unary, rest_of, left_how, right_how}
 use Rattle.bags.specs.declared.Place.{Place}
-use Rattle.bags.specs.declared.Compared.{Compared}
-use Rattle.bags.specs.declared.Compared.TheVariants.{Same, Different}
 use Rattle.bags.specs.declared.Tops.{Tops}
 use Rattle.bags.specs.declared.Tops.TheVariants.{Told, One, Two}
 
@@ -18,14 +16,14 @@ use Rattle.bags.specs.declared.Tops.TheVariants.{Told, One, Two}
 abbrev pub read_at : Place → Formula → Formula
 read_at x f = read_as x.how f
 
-unfoldable pub compared : Bool → ℕ → ℕ → Compared
-compared true a b = Same a b
-compared false a b = Different
+unfoldable pub compared : Bool → ℕ → ℕ → Option (ℕ × ℕ)
+compared true a b = Some (a, b)
+compared false a b = None
 
 -- places of a message of so many bytes
-abbrev pub Inside : ℕ → Compared → Type 0
-Inside len (Same a b) = (a ≤ len) × (b ≤ len)
-Inside len Different = Unit {0}
+abbrev pub Inside : ℕ → Option (ℕ × ℕ) → Type 0
+Inside len (Some p) = (p.0 ≤ len) × (p.1 ≤ len)
+Inside len None = Unit {0}
 
 abbrev pub TopsInside : ℕ → Tops → Type 0
 TopsInside len (Told r) = Inside len r
@@ -44,7 +42,7 @@ module _ (s : List ℕ) where
     pub at_is : r.at ≡ min (x.at + 1) (length s)
     pub how_is : r.how ≡ left_how (get_or s x.at 0) x.how
 
-  pub record Names (a b : ℕ) (r : Compared) : Type 0 where
+  pub record Names (a b : ℕ) (r : Option (ℕ × ℕ)) : Type 0 where
     pub inside : Inside (length s) r
     pub right : (f g : Formula) (m n : ℕ) → Stands s a (write_formula f) → Stands s b (write_formula g) → rest_of f ≡ named m → rest_of g ≡ named n
         → r ≡ compared (eqb m n) (a + size f) (b + size g)
@@ -76,7 +74,7 @@ module _ (s : List ℕ) where
       pub inside : TopsInside (length s) r
       pub right : (f g : Formula) → Stands s x.at (write_formula f) → Stands s y.at (write_formula g) → Tell f g r
 
-    pub record Compares (levels : ℕ) (r : Compared) : Type 0 where
+    pub record Compares (levels : ℕ) (r : Option (ℕ × ℕ)) : Type 0 where
       pub inside : Inside (length s) r
       pub right : (f g : Formula) → Stands s x.at (write_formula f) → Stands s y.at (write_formula g) → height f ≤ levels → height g ≤ levels
           → r ≡ compared (same (read_at x f) (read_at y g)) (x.at + size f) (y.at + size g)

@@ -1,7 +1,9 @@
 -- Two formulas of a message compared: what their tags tell, and how the comparison of their parts is that of the whole. Assumes nothing.
 use Rattle.std.proofs.Math.Path.{◌≡◌, refl, sym, ap}
 use Rattle.std.proofs.Common.{ap₂, ◌∙◌, ne_eqb, eq-eqb}
-use Rattle.std.specs.Prelude.{Bool, ◌&&◌, List, ◌++◌, length}
+use Rattle.std.specs.Prelude.{Bool, ◌&&◌, Option, Some, None, List, ◌++◌, length}
+use Rattle.std.specs.Option.{is_some}
+use mir.Val.{bool_byte}
 use Rattle.std.proofs.Math.Bool.{true, false}
 use Prim.Native.Nat.{ℕ, suc, ◌+◌, ◌-◌, ◌*◌, ◌/◌, ◌%◌, ◌≤◌, ◌<◌, max, min}
 use native.Mathlib.Omega.{arith}
@@ -21,8 +23,6 @@ use Rattle.bags.specs.Reading.{read_as, Rest, unit, named, binary, unary, rest_o
 use Rattle.bags.specs.ReadingLaws.{write_parts, size_parts, height_parts, read_tag, read_rest, read_follows, unit_follows, name_follows, two_follow, one_follows, other_tags, same_units, same_names, same_ones, same_twos}
 use Rattle.bags.specs.Compared.{read_at, compared, SignOf, LeftOf, RightOf, Names, OnePart, TwoParts, TopsAre, Compares, Once}
 use Rattle.bags.specs.declared.Place.{Place}
-use Rattle.bags.specs.declared.Compared.{Compared}
-use Rattle.bags.specs.declared.Compared.TheVariants.{Same, Different}
 use Rattle.bags.specs.declared.Tops.{Tops}
 use Rattle.bags.specs.declared.Tops.TheVariants.{Told, One, Two}
 
@@ -74,7 +74,7 @@ module _ (s : List ℕ) (a b : ℕ) (a_inside : a ≤ length s) (b_inside : b �
         let next : at₁ ≡ at + 1 = omega (arith, ends_inside f here) in
         d ∙ ap (λ (j : ℕ). get_or s j 0 * 256 + get_or s (j + 1) 0) next ∙ p.0
 
-    pub names_other : (m ≡ n → ⊥) → Names s a b Different
+    pub names_other : (m ≡ n → ⊥) → Names s a b None
     unfolding compared
     names_other h = record {
       inside = tt;
@@ -82,18 +82,18 @@ module _ (s : List ℕ) (a b : ℕ) (a_inside : a ≤ length s) (b_inside : b �
           rw (ne_eqb i j (λ e. h (two_is a a₁ m a₁_is m_is f i fs fr ∙ e ∙ sym (two_is b b₁ n b₁_is n_is g j gs gr))));
     }
 
-    pub names_alike : m ≡ n → {a₃ b₃ : ℕ} → a₃ ≡ min (a + 3) (length s) → b₃ ≡ min (b + 3) (length s) → Names s a b (Same a₃ b₃)
+    pub names_alike : m ≡ n → {a₃ b₃ : ℕ} → a₃ ≡ min (a + 3) (length s) → b₃ ≡ min (b + 3) (length s) → Names s a b (Some (a₃, b₃))
     unfolding compared
     names_alike h {a₃} {b₃} ea eb = record {
       inside = (omega arith, omega arith);
       right = λ f g i j fs gs fr gr.
           let e : a₃ ≡ a + size f = omega (arith, (name_here f fs fr).1, ends_inside f fs) in
           let e' : b₃ ≡ b + size g = omega (arith, (name_here g gs gr).1, ends_inside g gs) in
-          rw (eq-eqb i j (sym (two_is a a₁ m a₁_is m_is f i fs fr) ∙ h ∙ two_is b b₁ n b₁_is n_is g j gs gr)) (ap₂ Same e e');
+          rw (eq-eqb i j (sym (two_is a a₁ m a₁_is m_is f i fs fr) ∙ h ∙ two_is b b₁ n b₁_is n_is g j gs gr)) (ap₂ (λ (i j : ℕ). Some (i, j)) e e');
     }
 
 module _ (s : List ℕ) (x y : Place) {t u : ℕ} (sign_x : SignOf s x t) (sign_y : SignOf s y u) where
-  pub tops_other : (t ≡ u → ⊥) → TopsAre s x y (Told Different)
+  pub tops_other : (t ≡ u → ⊥) → TopsAre s x y (Told None)
   unfolding compared
   tops_other h = record {
     inside = tt;
@@ -111,7 +111,7 @@ module _ (s : List ℕ) (x y : Place) {t u : ℕ} (sign_x : SignOf s x t) (sign_
       rest_y : {r r' : Rest} → rest_of f ≡ r → rest_as y.how (tag_of f) r ≡ r' → rest_of (read_at y f) ≡ r'
       rest_y e k = read_rest y.how f ∙ ap (rest_as y.how (tag_of f)) e ∙ k
 
-    pub tops_unit : t < 4 → {a b : ℕ} → a ≡ min (x.at + 1) (length s) → b ≡ min (y.at + 1) (length s) → TopsAre s x y (Told (Same a b))
+    pub tops_unit : t < 4 → {a b : ℕ} → a ≡ min (x.at + 1) (length s) → b ≡ min (y.at + 1) (length s) → TopsAre s x y (Told (Some (a, b)))
     unfolding compared rest_size rest_as
     tops_unit small {a} {b} a_is b_is = record {
       inside = (omega arith, omega arith);
@@ -124,10 +124,10 @@ module _ (s : List ℕ) (x y : Place) {t u : ℕ} (sign_x : SignOf s x t) (sign_
           let gz : size g ≡ 1 = size_parts g ∙ ap (λ (r : Rest). suc (rest_size r)) gr in
           let e : a ≡ x.at + size f = omega (arith, ends_inside f fs) in
           let e' : b ≡ y.at + size g = omega (arith, ends_inside g gs) in
-          rw (same_units (read_at x f) (read_at y g) (tags_alike f g fs gs) (rest_x f fr refl) (rest_y g gr refl)) (ap₂ Same e e');
+          rw (same_units (read_at x f) (read_at y g) (tags_alike f g fs gs) (rest_x f fr refl) (rest_y g gr refl)) (ap₂ (λ (i j : ℕ). Some (i, j)) e e');
     }
 
-    pub tops_name : 4 ≤ t → t < 6 → {r : Compared} → Names s x.at y.at r → TopsAre s x y (Told r)
+    pub tops_name : 4 ≤ t → t < 6 → {r : Option (ℕ × ℕ)} → Names s x.at y.at r → TopsAre s x y (Told r)
     unfolding rest_as
     tops_name low high {r} names = record {
       inside = names.inside;
@@ -180,19 +180,20 @@ module _ (s : List ℕ) (x y : Place) {t u : ℕ} (sign_x : SignOf s x t) (sign_
 
 -- ---- the comparison
 
-elsewhere : {r : Compared} {b b' : Bool} {p p' q q' : ℕ} → r ≡ compared b p q → b ≡ b' → p ≡ p' → q ≡ q' → r ≡ compared b' p' q'
+elsewhere : {r : Option (ℕ × ℕ)} {b b' : Bool} {p p' q q' : ℕ} → r ≡ compared b p q → b ≡ b' → p ≡ p' → q ≡ q' → r ≡ compared b' p' q'
 elsewhere e h k l = cc
 
 -- the left parts differ: so do the wholes
-not_both : {r : Compared} (a b : Bool) (p p' q q' : ℕ) → r ≡ compared a p q → r ≡ Different → r ≡ compared (a && b) p' q'
+not_both : {r : Option (ℕ × ℕ)} (a b : Bool) (p p' q q' : ℕ) → r ≡ compared a p q → r ≡ None → r ≡ compared (a && b) p' q'
 unfolding compared
 not_both true b p p' q q' e k = let z : ◌≡◌ {A = ℕ} 0 1 = cc in absurd (omega arith)
 not_both false b p p' q q' e k = k
 
 -- the left parts are the same, and end at p and q
-both_left : {r : Compared} (a : Bool) (p q : ℕ) {p' q' : ℕ} → r ≡ compared a p q → r ≡ Same p' q' → (a ≡ true) × (p' ≡ p) × (q' ≡ q)
+both_left : {r : Option (ℕ × ℕ)} (a : Bool) (p q : ℕ) {p' q' : ℕ} → r ≡ compared a p q → r ≡ Some (p', q') → (a ≡ true) × (p' ≡ p) × (q' ≡ q)
 unfolding compared
-both_left true p q e k = (refl, cc, cc)
+both_left true p q {p'} {q'} e k =
+    let z : ◌≡◌ {A = ℕ × ℕ} (p', q') (p, q) = cc in (refl, ap (λ (z : ℕ × ℕ). z.0) z, ap (λ (z : ℕ × ℕ). z.1) z)
 both_left false p q e k = let z : ◌≡◌ {A = ℕ} 0 1 = cc in absurd (omega arith)
 
 module _ (s : List ℕ) (z : Place) (f : Formula) (here : Stands s z.at (write_formula f)) {z' : Place} (left : LeftOf s z z') where
@@ -213,13 +214,13 @@ module _ (s : List ℕ) (z : Place) (f : Formula) (here : Stands s z.at (write_f
   second_at {a} {b} e = let p = two_here f here e in (rw left_at p.1, omega (arith, left_at, p.2))
 
 module _ (s : List ℕ) (x y : Place) where
-  pub compare_none : Compares s x y 0 Different
+  pub compare_none : Compares s x y 0 None
   compare_none = record { inside = tt; right = λ f g fs gs fh gh. absurd (omega (arith, height_positive f)) }
 
-  pub compare_told : {levels : ℕ} {t : Tops} {r : Compared} → TopsAre s x y t → t ≡ Told r → Compares s x y levels r
+  pub compare_told : {levels : ℕ} {t : Tops} {r : Option (ℕ × ℕ)} → TopsAre s x y t → t ≡ Told r → Compares s x y levels r
   compare_told tops e = let tops = rw e at tops in record { inside = tops.inside; right = λ f g fs gs fh gh. tops.right f g fs gs }
 
-  module _ {levels : ℕ} {t : Tops} {x' y' : Place} {r : Compared} (tops : TopsAre s x y t) (some : 0 < levels) (left_x : LeftOf s x x') (left_y : LeftOf s y y') (lefts : Compares s x' y' (levels - 1) r) where
+  module _ {levels : ℕ} {t : Tops} {x' y' : Place} {r : Option (ℕ × ℕ)} (tops : TopsAre s x y t) (some : 0 < levels) (left_x : LeftOf s x x') (left_y : LeftOf s y y') (lefts : Compares s x' y' (levels - 1) r) where
     lefts_same : (f g a b : Formula) → Stands s x.at (write_formula f) → Stands s y.at (write_formula g) → same (read_as (left_how (tag_of f) x.how) a) (read_as (left_how (tag_of g) y.how) b) ≡ same (read_at x' a) (read_at y' b)
     lefts_same f g a b fs gs = ap₂ same (left_read s x f fs left_x a) (left_read s y g gs left_y b)
 
@@ -246,10 +247,10 @@ module _ (s : List ℕ) (x y : Place) where
       both_same : same (read_at x f) (read_at y g) ≡ same (read_at x' two.a) (read_at y' two.b) && same (read_as (right_how x.how) two.a') (read_as (right_how y.how) two.b')
       both_same = two.both ∙ ap (λ b. b && same (read_as (right_how x.how) two.a') (read_as (right_how y.how) two.b')) (lefts_same f g two.a two.b fs gs)
 
-      other_right : r ≡ Different → r ≡ compared (same (read_at x f) (read_at y g)) (x.at + size f) (y.at + size g)
+      other_right : r ≡ None → r ≡ compared (same (read_at x f) (read_at y g)) (x.at + size f) (y.at + size g)
       other_right e = rw both_same (not_both _ _ _ _ _ _ left_same e)
 
-      two_right : {a b : ℕ} {x'' y'' : Place} {r' : Compared} → r ≡ Same a b → RightOf x a x'' → RightOf y b y'' → Compares s x'' y'' (levels - 1) r' → r' ≡ compared (same (read_at x f) (read_at y g)) (x.at + size f) (y.at + size g)
+      two_right : {a b : ℕ} {x'' y'' : Place} {r' : Option (ℕ × ℕ)} → r ≡ Some (a, b) → RightOf x a x'' → RightOf y b y'' → Compares s x'' y'' (levels - 1) r' → r' ≡ compared (same (read_at x f) (read_at y g)) (x.at + size f) (y.at + size g)
       two_right {x'' = x''} {y'' = y''} e right_x right_y rights =
           let l = both_left _ _ _ left_same e in
           let fp = second_at s x f fs left_x two.of_f in
@@ -263,30 +264,37 @@ module _ (s : List ℕ) (x y : Place) where
           (omega (arith, fp.1))
           (omega (arith, gp.1))
 
-    pub compare_left : t ≡ Two → r ≡ Different → Compares s x y levels r
+    pub compare_left : t ≡ Two → r ≡ None → Compares s x y levels r
     compare_left e d = record { inside = lefts.inside; right = λ f g fs gs fh gh. other_right f g fs gs fh gh (rw e at (tops.right f g fs gs)) d }
 
-    pub compare_two : t ≡ Two → {a b : ℕ} {x'' y'' : Place} {r' : Compared} → r ≡ Same a b → RightOf x a x'' → RightOf y b y'' → Compares s x'' y'' (levels - 1) r' → Compares s x y levels r'
+    pub compare_two : t ≡ Two → {a b : ℕ} {x'' y'' : Place} {r' : Option (ℕ × ℕ)} → r ≡ Some (a, b) → RightOf x a x'' → RightOf y b y'' → Compares s x'' y'' (levels - 1) r' → Compares s x y levels r'
     compare_two e k right_x right_y rights =
         record { inside = rights.inside; right = λ f g fs gs fh gh. two_right f g fs gs fh gh (rw e at (tops.right f g fs gs)) k right_x right_y rights }
 
 -- the places after both are inside
-pub after_inside : {s : List ℕ} {x y z w z' w' : Place} {levels : ℕ} {r : Compared} {a b : ℕ} → Compares s x y levels r → r ≡ Same a b → RightOf z a z' → RightOf w b w' → (z'.at ≤ length s) × (w'.at ≤ length s)
+pub after_inside : {s : List ℕ} {x y z w z' w' : Place} {levels : ℕ} {r : Option (ℕ × ℕ)} {a b : ℕ} → Compares s x y levels r → r ≡ Some (a, b) → RightOf z a z' → RightOf w b w' → (z'.at ≤ length s) × (w'.at ≤ length s)
 after_inside c e right_z right_w = let c = rw e at c in (rw right_z.at_is c.inside.0, rw right_w.at_is c.inside.1)
 
-module _ (s : List ℕ) (x y : Place) {r : Compared} (c : Compares s x y highest_formula r) where
-  as_numbered : (b : Bool) (p q : ℕ) {p' q' : ℕ} → r ≡ compared b p q → r ≡ Same p' q' → 1 ≡ as_number b
+module _ (s : List ℕ) (x y : Place) {r : Option (ℕ × ℕ)} (c : Compares s x y highest_formula r) where
+  as_numbered : (b : Bool) (p q : ℕ) {p' q' : ℕ} → r ≡ compared b p q → r ≡ Some (p', q') → 1 ≡ as_number b
   unfolding compared
   as_numbered true p q e k = refl
   as_numbered false p q e k = let z : ◌≡◌ {A = ℕ} 0 1 = cc in absurd (omega arith)
 
-  as_none : (b : Bool) (p q : ℕ) → r ≡ compared b p q → r ≡ Different → 0 ≡ as_number b
+  as_none : (b : Bool) (p q : ℕ) → r ≡ compared b p q → r ≡ None → 0 ≡ as_number b
   unfolding compared
   as_none true p q e k = let z : ◌≡◌ {A = ℕ} 0 1 = cc in absurd (omega arith)
   as_none false p q e k = refl
 
-  pub once_same : {p q : ℕ} → r ≡ Same p q → Once s x y 1
+  pub once_same : {p q : ℕ} → r ≡ Some (p, q) → Once s x y 1
   once_same e = record { small = omega arith; right = λ f g fs gs. as_numbered _ _ _ (c.right f g fs.stands gs.stands fs.fits.height_fits gs.fits.height_fits) e }
 
-  pub once_other : r ≡ Different → Once s x y 0
+  pub once_other : r ≡ None → Once s x y 0
   once_other e = record { small = omega arith; right = λ f g fs gs. as_none _ _ _ (c.right f g fs.stands gs.stands fs.fits.height_fits gs.fits.height_fits) e }
+
+  pub once_told : {n : ℕ} → n ≡ bool_byte (is_some r) → Once s x y n
+  once_told {n} k = go r refl k
+    where
+      go : (o : Option (ℕ × ℕ)) → r ≡ o → n ≡ bool_byte (is_some o) → Once s x y n
+      go (Some p) e k = rw k (once_same e)
+      go None e k = rw k (once_other e)

@@ -40,17 +40,10 @@ pub struct Bag {
     pub third: Run,
 }
 
-// A comparison: the places after both formulas, where they are the same.
-#[derive(Clone, Copy)]
-pub enum Compared {
-    Same { a: usize, b: usize },
-    Different,
-}
-
-// What is known at two tags: the comparison, or that one part or two of each are still to be compared.
+// What is known at two tags: the comparison, which gives the places after both formulas where they are the same, or that one part or two of each are still to be compared.
 #[derive(Clone, Copy)]
 pub enum Tops {
-    Told(Compared),
+    Told(Option<(usize, usize)>),
     One,
     Two,
 }
@@ -93,8 +86,7 @@ pub fn right_how(how: How) -> How
     ensures { result ≡ right_how how }
 {
     match how {
-        How::Plain => How::Plain,
-        How::Spelled => How::Plain,
+        How::Plain | How::Spelled => How::Plain,
         How::Negated => How::Negated,
     }
 }
@@ -102,8 +94,7 @@ pub fn right_how(how: How) -> How
 fn sign_at(s: &[u8], x: Place) -> u8
     ensures { SignOf s.now x result }
 {
-    let how = x.how;
-    sign(tree::byte_at(s, x.at), how)
+    sign(tree::byte_at(s, x.at), x.how)
 }
 
 // The left part of the formula at a place.
@@ -111,10 +102,9 @@ fn left(s: &[u8], x: Place) -> Place
     requires { x.at ≤ length s.now }
     ensures { LeftOf s.now x result }
 {
-    let how = x.how;
     Place {
         at: tree::after(s, x.at, 1),
-        how: left_how(tree::byte_at(s, x.at), how),
+        how: left_how(tree::byte_at(s, x.at), x.how),
     }
 }
 
@@ -122,25 +112,21 @@ fn left(s: &[u8], x: Place) -> Place
 fn right(x: Place, at: usize) -> Place
     ensures { RightOf x at result }
 {
-    let how = x.how;
     Place {
         at,
-        how: right_how(how),
+        how: right_how(x.how),
     }
 }
 
 // Two names, each behind a tag.
-fn names(s: &[u8], a: usize, b: usize) -> Compared
+fn names(s: &[u8], a: usize, b: usize) -> Option<(usize, usize)>
     requires { (a ≤ length s.now) × (b ≤ length s.now) }
     ensures { Names s.now a b result }
 {
     if tree::two_at(s, tree::after(s, a, 1)) != tree::two_at(s, tree::after(s, b, 1)) {
-        return Compared::Different;
+        return None;
     }
-    Compared::Same {
-        a: tree::after(s, a, 3),
-        b: tree::after(s, b, 3),
-    }
+    Some((tree::after(s, a, 3), tree::after(s, b, 3)))
 }
 
 // Two formulas at their tags.
@@ -150,13 +136,10 @@ fn compare_tops(s: &[u8], x: Place, y: Place) -> Tops
 {
     let tag = sign_at(s, x);
     if tag != sign_at(s, y) {
-        return Tops::Told(Compared::Different);
+        return Tops::Told(None);
     }
     if tag < 4 {
-        return Tops::Told(Compared::Same {
-            a: tree::after(s, x.at, 1),
-            b: tree::after(s, y.at, 1),
-        });
+        return Tops::Told(Some((tree::after(s, x.at, 1), tree::after(s, y.at, 1))));
     }
     if tag < 6 {
         return Tops::Told(names(s, x.at, y.at));
@@ -168,21 +151,18 @@ fn compare_tops(s: &[u8], x: Place, y: Place) -> Tops
 }
 
 // Two formulas of at most `levels` levels, walked in step.
-fn compare(s: &[u8], x: Place, y: Place, levels: usize) -> Compared
+fn compare(s: &[u8], x: Place, y: Place, levels: usize) -> Option<(usize, usize)>
     requires { (x.at ≤ length s.now) × (y.at ≤ length s.now) }
     ensures { Compares s.now x y levels result }
 {
     if levels == 0 {
-        return Compared::Different;
+        return None;
     }
     match compare_tops(s, x, y) {
         Tops::Told(r) => r,
         Tops::One => compare(s, left(s, x), left(s, y), levels - 1),
         Tops::Two => {
-            let lefts = compare(s, left(s, x), left(s, y), levels - 1);
-            let Compared::Same { a, b } = lefts else {
-                return lefts;
-            };
+            let (a, b) = compare(s, left(s, x), left(s, y), levels - 1)?;
             compare(s, right(x, a), right(y, b), levels - 1)
         }
     }
@@ -193,10 +173,7 @@ fn once(s: &[u8], x: Place, y: Place) -> usize
     requires { (x.at ≤ length s.now) × (y.at ≤ length s.now) }
     ensures { Once s.now x y result }
 {
-    let Compared::Same { a: _, b: _ } = compare(s, x, y, HIGHEST_FORMULA) else {
-        return 0;
-    };
-    1
+    usize::from(compare(s, x, y, HIGHEST_FORMULA).is_some())
 }
 
 // How often a formula stands in a run.
@@ -204,13 +181,18 @@ pub fn times(s: &[u8], run: Run, x: Place) -> usize
     requires { RunWithin (length s.now) run × (x.at ≤ length s.now) }
     ensures { Counts s.now run x result }
 {
-    let end = run.end;
-    let how = run.how;
     let mut p = run.at;
     let mut n = 0;
-    while p < end {
-        n += once(s, x, Place { at: p, how });
-        p = tree::next_formula(s, p, end);
+    while p < run.end {
+        n += once(
+            s,
+            x,
+            Place {
+                at: p,
+                how: run.how,
+            },
+        );
+        p = tree::next_formula(s, p, run.end);
     }
     n
 }
@@ -227,15 +209,16 @@ fn agree_on(s: &[u8], run: Run, x: Bag, y: Bag) -> bool
     requires { Short s.now × RunWithin (length s.now) run × BagWithin (length s.now) x × BagWithin (length s.now) y }
     ensures { Agrees s.now run x y result }
 {
-    let end = run.end;
-    let how = run.how;
     let mut p = run.at;
-    while p < end {
-        let f = Place { at: p, how };
+    while p < run.end {
+        let f = Place {
+            at: p,
+            how: run.how,
+        };
         if times_in(s, x, f) != times_in(s, y, f) {
             return false;
         }
-        p = tree::next_formula(s, p, end);
+        p = tree::next_formula(s, p, run.end);
     }
     true
 }
@@ -245,12 +228,11 @@ fn count(s: &[u8], run: Run) -> usize
     requires { RunWithin (length s.now) run }
     ensures { Long s.now run result }
 {
-    let end = run.end;
     let mut p = run.at;
     let mut n = 0;
-    while p < end {
+    while p < run.end {
         n += 1;
-        p = tree::next_formula(s, p, end);
+        p = tree::next_formula(s, p, run.end);
     }
     n
 }
