@@ -1,5 +1,5 @@
 -- What printing writes at a tag, and what a walk over a text does: it counts, or writes, and writes no more once the output buffer is too short. Assumes nothing.
-use Rattle.std.specs.Prelude.{◌≡◌, Bool, true, false, List, [], ◌∷◌, ◌++◌, ℕ, ◌+◌, ◌≤◌, ◌<◌, length, get_or}
+use Rattle.std.specs.Prelude.{◌≡◌, Option, Some, None, List, [], ◌∷◌, ◌++◌, ℕ, ◌+◌, ◌≤◌, ◌<◌, length, get_or}
 use Rattle.std.proofs.lemmas.List.Edits.{sets}
 use Rattle.logic.specs.Formula.{Formula, size}
 use Rattle.logic.specs.Text.{Signs, unicode, ascii, printed}
@@ -51,13 +51,13 @@ laid Write out to text = sets out to text
 
 -- a place where all has fitted
 abbrev pub place : (next to : ℕ) → Place
-place n t = record { next = n; to = t; fits = true }
+place n t = record { next = n; to = Some t }
 
 -- a walk over a text from the place `to` of the output buffer, if all fitted so far; reading is at `next` then
-module _ (pass : Pass) (out : List ℕ) (to : ℕ) (so_far : Bool) (text : List ℕ) (next : ℕ) where
+module _ (pass : Pass) (out : List ℕ) (to : Option ℕ) (text : List ℕ) (next : ℕ) where
   pub data Emitted (r : Place) (last : List ℕ) : Type 0 where
-    went : so_far ≡ true → to + length text ≤ length out → r ≡ place next (to + length text) → last ≡ laid pass out to text → Emitted r last
-    stopped : (so_far ≡ true → length out < to + length text) → r.next ≡ next → r.fits ≡ false → length last ≡ length out → (pass ≡ Count → last ≡ out) → Emitted r last
+    went : (t : ℕ) → to ≡ Some t → t + length text ≤ length out → r ≡ place next (t + length text) → last ≡ laid pass out t text → Emitted r last
+    stopped : ((t : ℕ) → to ≡ Some t → length out < t + length text) → r.next ≡ next → r.to ≡ None → length last ≡ length out → (pass ≡ Count → last ≡ out) → Emitted r last
 
 -- a formula stands where reading goes on
 pub record Ready (s : List ℕ) (at : ℕ) : Type 0 where
@@ -66,4 +66,4 @@ pub record Ready (s : List ℕ) (at : ℕ) : Type 0 where
 
 -- the text of the formula there
 pub record Printed (s : List ℕ) (p : Place) (out : List ℕ) (style : Style) (pass : Pass) (r : Place) (last : List ℕ) : Type 0 where
-  pub text : (f : Formula) → Stands s p.next f → Emitted pass out p.to p.fits (printed (signs_of style) f) (p.next + size f) r last
+  pub text : (f : Formula) → Stands s p.next f → Emitted pass out p.to (printed (signs_of style) f) (p.next + size f) r last

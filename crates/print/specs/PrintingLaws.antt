@@ -1,9 +1,11 @@
 -- Laws of printing: how walks over texts follow one another, the digits of a number, and the text of each sign. Assumes nothing.
-use Rattle.std.specs.Prelude.{◌≡◌, Bool, false, ℕ, zero, suc, ◌+◌, ◌-◌, ◌*◌, ◌/◌, ◌%◌, ◌≤◌, ◌<◌, T, eqb, leb, get_or, set, take, drop}
+use Rattle.std.specs.Prelude.{◌≡◌, Bool, false, ℕ, zero, suc, ◌+◌, ◌-◌, ◌*◌, ◌/◌, ◌%◌, ◌≤◌, ◌<◌, T, eqb, leb, get_or, take, drop, Option, Some, None, Ok, Err}
 use Rattle.std.proofs.Math.Path.{refl, sym, ap}
-use Rattle.std.proofs.Common.{subst, ◌∙◌, le_of_suc-le-suc, not-suc-le-zero, arith, add-one, eq-eqb, ne_eqb, leb→le, length-append, take-suc, length-take-le}
+use Rattle.std.proofs.Common.{subst, ◌∙◌, le_of_suc-le-suc, not-suc-le-zero, arith, eq-eqb, ne_eqb, leb→le, length-append, drop-drop}
 use Rattle.std.proofs.Math.Bool.{true}
-use Rattle.std.proofs.lemmas.Bool.{false≢true, eqb-false}
+use Rattle.std.proofs.lemmas.Bool.{eqb-false}
+use Rattle.std.proofs.lemmas.List.Edits.{sets-eq}
+use Rattle.std.proofs.lemmas.Option.{none-some}
 use mathlib.Core.List.{List, [], ◌∷◌, ◌++◌, append_assoc, append-nil}
 use Rattle.std.proofs.Math.ListN.{length}
 use Rattle.std.proofs.Math.Seq.{sets, length-sets}
@@ -15,7 +17,6 @@ use Rattle.formula.specs.Signs.{At, Stands, BinaryAt, UnaryAt}
 use Rattle.formula.specs.Calls.{Writes}
 use Rattle.formula.proofs.CallsLaws.{Whole, whole_stands, writes_short, writes_bytes}
 use Rattle.formula.specs.declared.Refusal.TheVariants.{OutputShort}
-use Rattle.formula.specs.declared.Written.TheVariants.{Bytes, Refused}
 use Rattle.formula.specs.Reading.{form_of}
 use Rattle.formula.specs.declared.Form.TheVariants.{Unit, Named, Binary, Unary, Unknown}
 use Rattle.formula.specs.SignsLaws.{all_at, shaped, starts_inside, tag_below}
@@ -44,30 +45,32 @@ laid_count Write out to text e = let z : ◌≡◌ {A = ℕ} 0 1 = cc in absurd 
 
 -- ---- walks, one behind the other
 
-module _ {pass : Pass} {out : List ℕ} {to : ℕ} {so_far : Bool} {a : List ℕ} {n : ℕ} {q : Place} {mid : List ℕ} where
+module _ {pass : Pass} {out : List ℕ} {to : Option ℕ} {a : List ℕ} {n : ℕ} {q : Place} {mid : List ℕ} where
   -- reading is where it was said to be
-  pub read_on : Emitted pass out to so_far a n q mid → q.next ≡ n
-  read_on (went f h e l) = ap (λ (x : Place). x.next) e
+  pub read_on : Emitted pass out to a n q mid → q.next ≡ n
+  read_on (went t f h e l) = ap (λ (x : Place). x.next) e
   read_on (stopped h e f k l) = e
 
   module _ {b : List ℕ} {m : ℕ} {r : Place} {last : List ℕ} where
-    pub then_emitted : Emitted pass out to so_far a n q mid → Emitted pass mid q.to q.fits b m r last → Emitted pass out to so_far (a ++ b) m r last
-    then_emitted (went f h e l) (went f₂ h₂ e₂ l₂) =
-        let p : q.to ≡ to + length a = ap (λ (x : Place). x.to) e in
-        let wide : length mid ≡ length out = ap length l ∙ length_laid pass out to a in
-        let at_end : q.to + length b ≡ to + length (a ++ b) = omega (arith, length-append a b) in
-        went f (omega arith) (e₂ ∙ ap (place m) at_end) (l₂ ∙ rw (l, p) (laid_append pass out to a b))
-    then_emitted (went f h e l) (stopped h₂ e₂ f₂ k₂ l₂) =
-        let p : q.to ≡ to + length a = ap (λ (x : Place). x.to) e in
-        let wide : length mid ≡ length out = ap length l ∙ length_laid pass out to a in
-        stopped (λ _. omega (arith, h₂ (ap (λ (x : Place). x.fits) e), length-append a b)) e₂ f₂ (k₂ ∙ wide) (λ c. l₂ c ∙ l ∙ laid_count pass out to a c)
-    then_emitted (stopped h e f k l) (went f₂ h₂ e₂ l₂) = absurd (false≢true (sym f ∙ f₂))
-    then_emitted (stopped h e f k l) (stopped h₂ e₂ f₂ k₂ l₂) = stopped (λ g. omega (arith, h g, length-append a b)) e₂ f₂ (k₂ ∙ k) (λ c. l₂ c ∙ l c)
+    pub then_emitted : Emitted pass out to a n q mid → Emitted pass mid q.to b m r last → Emitted pass out to (a ++ b) m r last
+    then_emitted (went t f h e l) (went t₂ f₂ h₂ e₂ l₂) =
+        let o : Some t₂ ≡ Some (t + length a) = sym f₂ ∙ ap (λ (x : Place). x.to) e in
+        let p : t₂ ≡ t + length a = cc in
+        let wide : length mid ≡ length out = ap length l ∙ length_laid pass out t a in
+        let at_end : t₂ + length b ≡ t + length (a ++ b) = omega (arith, length-append a b) in
+        went t f (omega arith) (e₂ ∙ ap (place m) at_end) (l₂ ∙ rw (l, p) (laid_append pass out t a b))
+    then_emitted (went t f h e l) (stopped h₂ e₂ f₂ k₂ l₂) =
+        let wide : length mid ≡ length out = ap length l ∙ length_laid pass out t a in
+        let past : length mid < t + length a + length b = h₂ (t + length a) (ap (λ (x : Place). x.to) e) in
+        let so : (u : ℕ) → to ≡ Some u → length out < u + length (a ++ b) = λ u g. let same : u ≡ t = cc in omega (arith, length-append a b) in
+        stopped so e₂ f₂ (k₂ ∙ wide) (λ c. l₂ c ∙ l ∙ laid_count pass out t a c)
+    then_emitted (stopped h e f k l) (went t₂ f₂ h₂ e₂ l₂) = absurd (none-some t₂ (sym f ∙ f₂))
+    then_emitted (stopped h e f k l) (stopped h₂ e₂ f₂ k₂ l₂) = stopped (λ u g. omega (arith, h u g, length-append a b)) e₂ f₂ (k₂ ∙ k) (λ c. l₂ c ∙ l c)
 
 -- the same walk over the same text
-pub as_text : {pass : Pass} {out : List ℕ} {to : ℕ} {so_far : Bool} {a b : List ℕ} {n m : ℕ} {r : Place} {last : List ℕ}
-    → Emitted pass out to so_far a n r last → a ≡ b → n ≡ m → Emitted pass out to so_far b m r last
-as_text {pass} {out} {to} {so_far} {a} {b} {n} {m} {r} {last} e p q = rw (← p, ← q) e
+pub as_text : {pass : Pass} {out : List ℕ} {to : Option ℕ} {a b : List ℕ} {n m : ℕ} {r : Place} {last : List ℕ}
+    → Emitted pass out to a n r last → a ≡ b → n ≡ m → Emitted pass out to b m r last
+as_text {pass} {out} {to} {a} {b} {n} {m} {r} {last} e p q = rw (← p, ← q) e
 
 -- ---- numbers
 
@@ -97,30 +100,27 @@ name_one n h = ap (λ (l : List ℕ). 97 ∷ l) (digits_one n h)
 pub name_more : (n : ℕ) → 10 ≤ n → name n ≡ name (n / 10) ++ ((48 + n % 10) ∷ [])
 name_more n h = ap (λ (l : List ℕ). 97 ∷ l) (digits_more n h)
 
--- ---- a copy, byte by byte
-
-pub copied_more : (l : List ℕ) (to : ℕ) (text : List ℕ) (i : ℕ) → i < length text → set (sets l to (take i text)) (to + i) (get_or text i 0) ≡ sets l to (take (i + 1) text)
-copied_more l to text i h =
-    let wide : length (take i text) ≡ i = length-take-le i text (omega arith) in
-    sym (ap (sets l to) (ap (λ (k : ℕ). take k text) (add-one i) ∙ take-suc text i 0 h) ∙ sets_append (take i text) (get_or text i 0 ∷ []) l to ∙ rw wide)
-
 -- ---- a text, as the code passes over it
 
-pub emit_no_more : {pass : Pass} {out : List ℕ} (p : Place) (text : List ℕ) → p.fits ≡ false → Emitted pass out p.to p.fits text p.next p out
-emit_no_more p text f = stopped (λ g. absurd (false≢true (sym f ∙ g))) refl f refl (λ c. refl)
+-- a part of the buffer that becomes the text
+pub part_copied : (out text : List ℕ) (to : ℕ) {part : List ℕ} → to + length text ≤ length out → part ≡ text → take to out ++ (part ++ drop (to + length text - to) (drop to out)) ≡ sets out to text
+part_copied out text to room e = let behind : to + length text - to ≡ length text = omega arith in rw (e, behind, drop-drop (length text) to out, sets-eq text out to room, append_assoc)
 
-module _ {pass : Pass} {out : List ℕ} {to : ℕ} {so_far : Bool} (text : List ℕ) (next : ℕ) where
-  pub emit_short : length out < to + length text → Emitted pass out to so_far text next (record { next = next; to = to; fits = false }) out
-  emit_short h = stopped (λ _. h) refl refl refl (λ c. refl)
+pub emit_no_more : {pass : Pass} {out : List ℕ} (p : Place) (text : List ℕ) → p.to ≡ None → Emitted pass out p.to text p.next p out
+emit_no_more p text f = stopped (λ t g. absurd (none-some t (sym f ∙ g))) refl f refl (λ c. refl)
 
-  module _ (f : so_far ≡ true) (room : to ≤ length out) (h : length text ≤ length out - to) where
-    pub emit_written : {last : List ℕ} → pass ≡ Write → last ≡ sets out to text → Emitted pass out to so_far text next (place next (to + length text)) last
+module _ {pass : Pass} {out : List ℕ} {o : Option ℕ} {to : ℕ} (text : List ℕ) (next : ℕ) (f : o ≡ Some to) where
+  pub emit_short : length out < to + length text → Emitted pass out o text next (record { next = next; to = None }) out
+  emit_short h = let so : (t : ℕ) → o ≡ Some t → length out < t + length text = λ t g. let same : t ≡ to = cc in omega arith in stopped so refl refl refl (λ c. refl)
+
+  module _ (room : to + length text ≤ length out) where
+    pub emit_written : {last : List ℕ} → pass ≡ Write → last ≡ sets out to text → Emitted pass out o text next (place next (to + length text)) last
     unfolding laid
-    emit_written p e = went f (omega arith) refl (e ∙ sym (ap (λ (x : Pass). laid x out to text) p))
+    emit_written p e = went to f room refl (e ∙ sym (ap (λ (x : Pass). laid x out to text) p))
 
-    pub emit_counted : pass ≡ Count → Emitted pass out to so_far text next (place next (to + length text)) out
+    pub emit_counted : pass ≡ Count → Emitted pass out o text next (place next (to + length text)) out
     unfolding laid
-    emit_counted p = went f (omega arith) refl (sym (ap (λ (x : Pass). laid x out to text) p))
+    emit_counted p = went to f room refl (sym (ap (λ (x : Pass). laid x out to text) p))
 
 -- ---- signs by tag
 
@@ -198,7 +198,7 @@ module _ (s : List ℕ) (p : Place) (out : List ℕ) (style : Style) (pass : Pas
 
   -- a walk over a text from that place
   abbrev Goes : List ℕ → ℕ → Place → List ℕ → Type 0
-  Goes text next r last = Emitted pass out p.to p.fits text next r last
+  Goes text next r last = Emitted pass out p.to text next r last
 
   pub unit_printed : {r : Place} {last : List ℕ} → form_of tag ≡ Unit → Goes (sign_text (signs_of style) tag) (p.next + 1) r last → Printed s p out style pass r last
   unit_printed e m =
@@ -207,7 +207,7 @@ module _ (s : List ℕ) (p : Place) (out : List ℕ) (style : Style) (pass : Pas
       }
 
   pub name_printed : {n : ℕ} {q r : Place} {mid last : List ℕ} → form_of tag ≡ Named → n ≡ get_or s (p.next + 1) 0 * 256 + get_or s (p.next + 2) 0
-      → Goes (name n) (p.next + 3) q mid → Emitted pass mid q.to q.fits (sign_text (signs_of style) tag) q.next r last → Printed s p out style pass r last
+      → Goes (name n) (p.next + 3) q mid → Emitted pass mid q.to (sign_text (signs_of style) tag) q.next r last → Printed s p out style pass r last
   name_printed {n} e g m m₂ =
       record {
         text =
@@ -249,7 +249,7 @@ module _ (s : List ℕ) (p : Place) (out : List ℕ) (style : Style) (pass : Pas
     first_ready ready =
         let u = shaped s p.next ready.formula ready.stands e in record { formula = u.first; stands = first_stands ready.formula u }
 
-    module _ {q₂ q₃ : Place} {o₂ o₃ : List ℕ} (first : Printed s q₁ o₁ style pass q₂ o₂) (sign : Emitted pass o₂ q₂.to q₂.fits (sign_text (signs_of style) tag) q₂.next q₃ o₃) where
+    module _ {q₂ q₃ : Place} {o₂ o₃ : List ℕ} (first : Printed s q₁ o₁ style pass q₂ o₂) (sign : Emitted pass o₂ q₂.to (sign_text (signs_of style) tag) q₂.next q₃ o₃) where
       second_place : (f : Formula) (u : BinaryAt s p.next f) → q₃.next ≡ p.next + 1 + size u.first
       second_place f u = omega (arith, read_on sign, read_on (first.text u.first (first_stands f u)), read_on bracket)
 
@@ -263,7 +263,7 @@ module _ (s : List ℕ) (p : Place) (out : List ℕ) (style : Style) (pass : Pas
       second_ready ready =
           let u = shaped s p.next ready.formula ready.stands e in record { formula = u.second; stands = second_stands ready.formula u }
 
-      pub binary_printed : {q₄ r : Place} {o₄ last : List ℕ} → Printed s q₃ o₃ style pass q₄ o₄ → Emitted pass o₄ q₄.to q₄.fits (41 ∷ []) q₄.next r last → Printed s p out style pass r last
+      pub binary_printed : {q₄ r : Place} {o₄ last : List ℕ} → Printed s q₃ o₃ style pass q₄ o₄ → Emitted pass o₄ q₄.to (41 ∷ []) q₄.next r last → Printed s p out style pass r last
       binary_printed second close =
           record {
             text =
@@ -300,20 +300,24 @@ module _ {s : List ℕ} {n : ℕ} (w : Whole s n) where
   one_ready = record { formula = w.formula; stands = whole_stands w }
 
   module _ (out : List ℕ) (style : Style) {q : Place} {mid : List ℕ} (counted : Printed s (place 0 0) out style Count q mid) where
-    pub count_short : q.fits ≡ false → Writes (printed (signs_of style)) s out (Refused OutputShort) mid
+    pub count_short : q.to ≡ None → Writes (printed (signs_of style)) s out (Err OutputShort) mid
     count_short g = go (counted.text w.formula (whole_stands w))
       where
-        go : Emitted Count out 0 true (printed (signs_of style) w.formula) (0 + size w.formula) q mid → Writes (printed (signs_of style)) s out (Refused OutputShort) mid
-        go (went f h e l) = absurd (false≢true (sym g ∙ ap (λ (x : Place). x.fits) e))
-        go (stopped h e f k l) = rw (l refl) (writes_short (printed (signs_of style)) s out w (omega (arith, h refl)))
+        go : Emitted Count out (Some 0) (printed (signs_of style) w.formula) (0 + size w.formula) q mid → Writes (printed (signs_of style)) s out (Err OutputShort) mid
+        go (went t f h e l) = absurd (none-some (t + length (printed (signs_of style) w.formula)) (sym g ∙ ap (λ (x : Place). x.to) e))
+        go (stopped h e f k l) = rw (l refl) (writes_short (printed (signs_of style)) s out w (omega (arith, h 0 refl)))
 
-    pub print_done : {r : Place} {last : List ℕ} → q.fits ≡ true → Printed s (place 0 0) mid style Write r last → Writes (printed (signs_of style)) s out (Bytes q.to) last
+    pub print_done : {r : Place} {last : List ℕ} {to : ℕ} → q.to ≡ Some to → Printed s (place 0 0) mid style Write r last → Writes (printed (signs_of style)) s out (Ok to) last
     unfolding laid
-    print_done {r} {last} g p = go (counted.text w.formula (whole_stands w)) (p.text w.formula (whole_stands w))
+    print_done {r} {last} {to} g p = go (counted.text w.formula (whole_stands w)) (p.text w.formula (whole_stands w))
       where
-        go : Emitted Count out 0 true (printed (signs_of style) w.formula) (0 + size w.formula) q mid
-            → Emitted Write mid 0 true (printed (signs_of style) w.formula) (0 + size w.formula) r last → Writes (printed (signs_of style)) s out (Bytes q.to) last
-        go (went f h e l) (went f₂ h₂ e₂ l₂) =
-            writes_bytes (printed (signs_of style)) s out w (omega arith) (omega (arith, ap (λ (x : Place). x.to) e)) (l₂ ∙ ap (λ (o : List ℕ). sets o 0 (printed (signs_of style) w.formula)) l)
-        go (went f h e l) (stopped h₂ e₂ f₂ k₂ l₂) = absurd (omega (arith, h₂ refl, ap length l))
-        go (stopped h e f k l) m = absurd (false≢true (sym f ∙ g))
+        go : Emitted Count out (Some 0) (printed (signs_of style) w.formula) (0 + size w.formula) q mid
+            → Emitted Write mid (Some 0) (printed (signs_of style) w.formula) (0 + size w.formula) r last → Writes (printed (signs_of style)) s out (Ok to) last
+        go (went t f h e l) (went t₂ f₂ h₂ e₂ l₂) =
+            let z : t ≡ 0 = cc in
+            let z₂ : t₂ ≡ 0 = cc in
+            let o : Some to ≡ Some (t + length (printed (signs_of style) w.formula)) = sym g ∙ ap (λ (x : Place). x.to) e in
+            let same : to ≡ t + length (printed (signs_of style) w.formula) = cc in
+            writes_bytes (printed (signs_of style)) s out w (omega arith) (omega arith) (l₂ ∙ rw (l, z₂))
+        go (went t f h e l) (stopped h₂ e₂ f₂ k₂ l₂) = let z : t ≡ 0 = cc in absurd (omega (arith, h₂ 0 refl, ap length l))
+        go (stopped h e f k l) m = absurd (none-some to (sym f ∙ g))

@@ -10,27 +10,26 @@ ghost use Rattle.logic.specs.Text as as_text;
 ghost use Rattle.formula.specs.Calls.{Writes};
 ghost use Rattle.print.specs.Printing.{signs_of, sign_row, sign_text, Emitted, Ready, Printed};
 
-use formula::{Form, Read, Refusal, Written, form_of, read_one};
+use formula::{Form, Refusal, form_of, read_one};
 
-#[derive(Clone, Copy)]
+#[derive(Clone, Copy, Debug, PartialEq, Eq)]
 pub enum Style {
     Unicode,
     Ascii,
 }
 
 // A walk that only counts, or one that writes.
-#[derive(Clone, Copy)]
+#[derive(Clone, Copy, Debug, PartialEq, Eq)]
 pub enum Pass {
     Count,
     Write,
 }
 
-// Where reading and writing go on, and whether the text fits the output buffer so far.
-#[derive(Clone, Copy)]
+// Where reading goes on, and where writing does while the text fits the output buffer.
+#[derive(Clone, Copy, Debug, PartialEq, Eq)]
 pub struct Place {
     pub next: usize,
-    pub to: usize,
-    pub fits: bool,
+    pub to: Option<usize>,
 }
 
 // What stands for each tag, in UTF-8, one behind the other: the signs of the Unicode printing and then those of the ASCII printing, those between two parts with their spaces. An atom's tag has none.
@@ -43,53 +42,24 @@ const STARTS: [usize; 27] = [
     62, 63,
 ];
 
-// Copies a text to its place.
-fn copy(out: &mut [u8], to: usize, text: &[u8])
-    requires { to + length text.now ≤ length out.old }
-    ensures { out.new ≡ sets out.old to text.now }
-{
-    let mut i = 0;
-    while i < text.len() {
-        out[to + i] = text[i];
-        i += 1;
-    }
-}
-
 // Passes over a text, which a walk that writes copies to its place. Reading goes on where it was.
 fn emit(out: &mut [u8], p: Place, text: &[u8], pass: Pass) -> Place
-    ensures { Emitted pass out.old p.to p.fits text.now p.next result out.new }
+    ensures { Emitted pass out.old p.to text.now p.next result out.new }
 {
     let next = p.next;
-    let to = p.to;
-    if !p.fits {
+    let Some(to) = p.to else {
         return p;
+    };
+    if out.len() < to || out.len() - to < text.len() {
+        return Place { next, to: None };
     }
-    if out.len() < to {
-        return Place {
-            next,
-            to,
-            fits: false,
-        };
-    }
-    if out.len() - to < text.len() {
-        return Place {
-            next,
-            to,
-            fits: false,
-        };
-    }
+    let end = to + text.len();
     if let Pass::Write = pass {
-        copy(out, to, text);
-        return Place {
-            next,
-            to: to + text.len(),
-            fits: true,
-        };
+        out[to..end].copy_from_slice(text);
     }
     Place {
         next,
-        to: to + text.len(),
-        fits: true,
+        to: Some(end),
     }
 }
 
@@ -107,27 +77,24 @@ fn row(style: Style, tag: u8) -> usize
 // What stands for a tag in the text, without its parts.
 fn sign(out: &mut [u8], p: Place, tag: u8, style: Style, pass: Pass) -> Place
     requires { tag < 13 }
-    ensures { Emitted pass out.old p.to p.fits (sign_text (signs_of style) tag) p.next result out.new }
+    ensures { Emitted pass out.old p.to (sign_text (signs_of style) tag) p.next result out.new }
 {
     let k = row(style, tag);
     let from = STARTS[k];
     let end = STARTS[k + 1];
-    let signs = SIGNS;
-    emit(out, p, &signs[from..end], pass)
+    emit(out, p, &SIGNS[from..end], pass)
 }
 
 // The Rust atom `a17`: its number in decimal, without leading zeros.
 fn name(out: &mut [u8], p: Place, n: usize, pass: Pass) -> Place
-    ensures { Emitted pass out.old p.to p.fits (as_text.name n) p.next result out.new }
+    ensures { Emitted pass out.old p.to (as_text.name n) p.next result out.new }
 {
-    let digit = 48 + (n % 10) as u8;
+    let digit = b'0' + (n % 10) as u8;
     if n < 10 {
-        let shortest = [97, digit];
-        return emit(out, p, &shortest, pass);
+        return emit(out, p, &[b'a', digit], pass);
     }
     let before = name(out, p, n / 10, pass);
-    let last = [digit];
-    emit(out, before, &last, pass)
+    emit(out, before, &[digit], pass)
 }
 
 // The text of the formula where reading goes on.
@@ -136,24 +103,20 @@ fn print(s: &[u8], out: &mut [u8], p: Place, style: Style, pass: Pass) -> Place
     ensures { Printed s.now p out.old style pass result out.new }
 {
     let at = p.next;
-    let to = p.to;
-    let fits = p.fits;
     let tag = s[at];
     let inside = Place {
         next: at + 1,
-        to,
-        fits,
+        to: p.to,
     };
     match form_of(tag) {
         Form::Unit => sign(out, inside, tag, style, pass),
         Form::Named => {
-            let n = (s[at + 1] as usize) * 256 + (s[at + 2] as usize);
+            let n = u16::from_be_bytes([s[at + 1], s[at + 2]]);
             let behind = Place {
                 next: at + 3,
-                to,
-                fits,
+                to: p.to,
             };
-            let named = name(out, behind, n, pass);
+            let named = name(out, behind, usize::from(n), pass);
             sign(out, named, tag, style, pass)
         }
         Form::Unary => {
@@ -172,36 +135,31 @@ fn print(s: &[u8], out: &mut [u8], p: Place, style: Style, pass: Pass) -> Place
 }
 
 // The text of the formula that the whole slice is, into the front of `out`.
-fn print_one(s: &[u8], out: &mut [u8], style: Style) -> Written
+fn print_one(s: &[u8], out: &mut [u8], style: Style) -> Result<usize, Refusal>
     ensures { Writes (as_text.printed (signs_of style)) s.now out.old result out.new }
 {
-    match read_one(s) {
-        Read::Refused(k) => Written::Refused(k),
-        Read::Next(_) => {
-            let start = Place {
-                next: 0,
-                to: 0,
-                fits: true,
-            };
-            let end = print(s, out, start, style, Pass::Count);
-            if end.fits {
-                print(s, out, start, style, Pass::Write);
-                return Written::Bytes(end.to);
-            }
-            Written::Refused(Refusal::OutputShort)
-        }
-    }
+    read_one(s)?;
+    let start = Place {
+        next: 0,
+        to: Some(0),
+    };
+    let counted = print(s, out, start, style, Pass::Count);
+    let Some(n) = counted.to else {
+        return Err(Refusal::OutputShort);
+    };
+    print(s, out, start, style, Pass::Write);
+    Ok(n)
 }
 
 // formula.rs: `pretty`, in UTF-8.
-pub fn pretty(s: &[u8], out: &mut [u8]) -> Written
+pub fn pretty(s: &[u8], out: &mut [u8]) -> Result<usize, Refusal>
     ensures { Writes as_text.pretty s.now out.old result out.new }
 {
     print_one(s, out, Style::Unicode)
 }
 
 // formula.rs: `pretty_ascii`.
-pub fn pretty_ascii(s: &[u8], out: &mut [u8]) -> Written
+pub fn pretty_ascii(s: &[u8], out: &mut [u8]) -> Result<usize, Refusal>
     ensures { Writes as_text.pretty_ascii s.now out.old result out.new }
 {
     print_one(s, out, Style::Ascii)

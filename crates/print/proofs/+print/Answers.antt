@@ -1,7 +1,6 @@
-use mathlib.Core.Path.{refl, sym, ◌∙◌}
+use mathlib.Core.Path.{sym, ◌∙◌}
 use native.Mathlib.Omega.{arith}
 use Rattle.print.specs.PrintingLaws.{read_on, unit_printed, name_printed, unary_ready, unary_printed, first_ready, second_after, second_ready, binary_printed, inside, known, name_inside, tag_known}
-use Prim.Native.Nat.{◌+◌}
 use Rattle.print.proofs.+print.Goals as goal
 
 pub bounds-s-at : goal.bounds-s-at
@@ -13,29 +12,17 @@ overflow_add-inside t c = omega (arith, inside _ _ c.requires)
 pub sign-requires : goal.sign-requires
 sign-requires t c = tag_known _ _ c.requires
 
-pub overflow_add-n : goal.overflow_add-n
-overflow_add-n t c = omega (arith, name_inside _ _ c.requires (sym c.form_of.ensures ∙ c.in-Named.is))
+pub overflow_add-at : goal.overflow_add-at
+overflow_add-at t c = omega (arith, name_inside _ _ c.requires (sym c.form_of.ensures ∙ c.in-Named.is))
 
 pub bounds-s-at-in-Named : goal.bounds-s-at-in-Named
 bounds-s-at-in-Named t c = omega (arith, name_inside _ _ c.requires (sym c.form_of.ensures ∙ c.in-Named.is))
 
-pub overflow_cast-n : goal.overflow_cast-n
-overflow_cast-n t c = omega (arith, c.type_inv.s (c.args.p.next + 1))
-
-pub overflow_mul-n : goal.overflow_mul-n
-overflow_mul-n t c = omega (arith, c.type_inv.s (c.args.p.next + 1))
-
-pub overflow_add-n-in-Named : goal.overflow_add-n-in-Named
-overflow_add-n-in-Named t c = omega (arith, name_inside _ _ c.requires (sym c.form_of.ensures ∙ c.in-Named.is))
+pub overflow_add-at-in-Named : goal.overflow_add-at-in-Named
+overflow_add-at-in-Named t c = omega (arith, name_inside _ _ c.requires (sym c.form_of.ensures ∙ c.in-Named.is))
 
 pub bounds-s-at-in-Named-2 : goal.bounds-s-at-in-Named-2
 bounds-s-at-in-Named-2 t c = omega (arith, name_inside _ _ c.requires (sym c.form_of.ensures ∙ c.in-Named.is))
-
-pub overflow_cast-n-in-Named : goal.overflow_cast-n-in-Named
-overflow_cast-n-in-Named t c = omega (arith, c.type_inv.s (c.args.p.next + 2))
-
-pub overflow_add-n-in-Named-2 : goal.overflow_add-n-in-Named-2
-overflow_add-n-in-Named-2 t c = omega (arith, c.type_inv.s (c.args.p.next + 1), c.type_inv.s (c.args.p.next + 2))
 
 pub overflow_add-behind : goal.overflow_add-behind
 overflow_add-behind t c = omega (arith, name_inside _ _ c.requires (sym c.form_of.ensures ∙ c.in-Named.is))
@@ -62,13 +49,10 @@ pub returns-in-Unit : goal.returns-in-Unit
 returns-in-Unit t c = unit_printed _ _ _ _ _ (sym c.form_of.ensures ∙ c.in-Unit.is) c.sign.ensures
 
 pub returns-in-Named : goal.returns-in-Named
-returns-in-Named t c = name_printed _ _ _ _ _ (sym c.form_of.ensures ∙ c.in-Named.is) refl c.name-named.ensures c.sign-in-Named.ensures
+returns-in-Named t c = name_printed _ _ _ _ _ (sym c.form_of.ensures ∙ c.in-Named.is) (c.from.ensures ∙ c.from_be_bytes-n.ensures) c.name-named.ensures c.sign-in-Named.ensures
 
 pub returns-in-Unary : goal.returns-in-Unary
 returns-in-Unary t c = unary_printed _ _ _ _ _ (sym c.form_of.ensures ∙ c.in-Unary.is) c.sign-signed.ensures c.print.ensures
-
-pub shape_of-out-in-Binary : goal.shape_of-out-in-Binary
-shape_of-out-in-Binary t c = c.emit.auto.out ∙ c.print-second.auto.out ∙ c.sign-between.auto.out ∙ c.print-first.auto.out ∙ c.emit-open.auto.out
 
 pub returns-in-Binary : goal.returns-in-Binary
 returns-in-Binary t c = binary_printed _ _ _ _ _ (sym c.form_of.ensures ∙ c.in-Binary.is) c.emit-open.ensures c.print-first.ensures c.sign-between.ensures c.print-second.ensures c.emit.ensures

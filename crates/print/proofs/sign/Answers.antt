@@ -3,18 +3,6 @@ use native.Mathlib.Omega.{arith}
 use Rattle.print.specs.PrintingLaws.{as_text, row_at}
 use Rattle.print.proofs.sign.Goals as goal
 
-pub row-k-requires : goal.row-k-requires
-row-k-requires c = c.requires
-
-pub offset_bounds-k : goal.offset_bounds-k
-offset_bounds-k c = omega (arith, c.row-k.ensures.1)
-
-pub overflow_add-end : goal.overflow_add-end
-overflow_add-end c = omega (arith, c.row-k.ensures.1)
-
-pub offset_bounds-k-2 : goal.offset_bounds-k-2
-offset_bounds-k-2 c = omega (arith, c.row-k.ensures.1)
-
 pub slice_bounds-emit-count : goal.slice_bounds-emit-count
 slice_bounds-emit-count c = (row_at c.args.style _ c.row-k.ensures.0 c.requires).in_order
 
