@@ -1,4 +1,5 @@
 -- Steps of the proofs on rows: a told bool, a weighed row. Assumes nothing.
+use Rattle.std.specs.Prelude.{None, Option, Some}
 use mathlib.Core.Path.{◌≡◌, refl}
 use mathlib.Core.Bool.{Bool, true, false}
 use mathlib.Core.List.{List}
@@ -8,9 +9,14 @@ use borrow.Author.Count.{below_more}
 use borrow.Author.Tests.{eqb-true, eqb-false}
 use lib.Dec.{eqb}
 use Rattle.held.specs.Words.{at, Row, unit, name, two, one, RowAt, Rows}
-use Rattle.held.specs.Answers.{Tells, Weighed, Joined, is_of, both}
+use Rattle.held.specs.Answers.{Tells, Weighed, Joined}
 use Rattle.held.specs.declared.rows.Weight.{Weight}
-use Rattle.held.specs.declared.rows.Weight.TheVariants.{Of, Unfit}
+use Rattle.held.specs.contracts.rows.WeightPartialEq.TheImpl.{eq-value}
+use Rattle.std.specs.Option.{option_eq}
+use Rattle.std.specs.Prelude.{◌&&◌, MatchBool}
+use Rattle.std.specs.List.{AllWithin, HoldsAt, range_with_len}
+use Rattle.std.proofs.lemmas.List.FromFn.{length-range_with_len, get_or-range_with_len}
+use lib.ListN.{get_or, length}
 
 pub told : (r : Bool) (P : Type 0) → Tells r P → r ≡ true → P
 told true P x e = x
@@ -75,13 +81,13 @@ module _ {m : List ℕ} {n t a b h s : ℕ} where
   row_wide_one (two k l x y e f u v) p = omega arith
   row_wide_one (one k l x y e f u v) p = omega arith
 
-pub weighed_two : (m : List ℕ) (n t a b h₁ h₂ s₁ s₂ : ℕ) (r : Weight) → Joined h₁ h₂ s₁ s₂ r → 6 ≤ t → t < 11 → a < n → b < n → h₁ ≡ at m a 3 → h₂ ≡ at m b 3 → s₁ ≡ at m a 4 → s₂ ≡ at m b 4 → Weighed m n t a b r
-weighed_two m n t a b h₁ h₂ s₁ s₂ (Of h s) j k l x y e₁ e₂ f₁ f₂ = two k l x y (omega arith) (omega arith) (omega arith) (omega arith)
-weighed_two m n t a b h₁ h₂ s₁ s₂ Unfit j k l x y e₁ e₂ f₁ f₂ = λ h s r. let u = row_tall r k l in let v = row_wide r k l in j (omega arith) (omega arith)
+pub weighed_two : (m : List ℕ) (n t a b h₁ h₂ s₁ s₂ : ℕ) (r : Option Weight) → Joined h₁ h₂ s₁ s₂ r → 6 ≤ t → t < 11 → a < n → b < n → h₁ ≡ at m a 3 → h₂ ≡ at m b 3 → s₁ ≡ at m a 4 → s₂ ≡ at m b 4 → Weighed m n t a b r
+weighed_two m n t a b h₁ h₂ s₁ s₂ (Some w) j k l x y e₁ e₂ f₁ f₂ = two k l x y (omega arith) (omega arith) (omega arith) (omega arith)
+weighed_two m n t a b h₁ h₂ s₁ s₂ None j k l x y e₁ e₂ f₁ f₂ = λ h s r. let u = row_tall r k l in let v = row_wide r k l in j (omega arith) (omega arith)
 
-pub weighed_one : (m : List ℕ) (n t a b h₁ s₁ : ℕ) (r : Weight) → Joined h₁ 0 s₁ 0 r → 11 ≤ t → t < 13 → a < n → b ≡ 0 → h₁ ≡ at m a 3 → s₁ ≡ at m a 4 → Weighed m n t a b r
-weighed_one m n t a b h₁ s₁ (Of h s) j k l x z e₁ f₁ = one k l x z (omega arith) (omega arith) (omega arith) (omega arith)
-weighed_one m n t a b h₁ s₁ Unfit j k l x z e₁ f₁ = λ h s r. let u = row_tall_one r k in let v = row_wide_one r k in j (omega arith) (omega arith)
+pub weighed_one : (m : List ℕ) (n t a b h₁ s₁ : ℕ) (r : Option Weight) → Joined h₁ 0 s₁ 0 r → 11 ≤ t → t < 13 → a < n → b ≡ 0 → h₁ ≡ at m a 3 → s₁ ≡ at m a 4 → Weighed m n t a b r
+weighed_one m n t a b h₁ s₁ (Some w) j k l x z e₁ f₁ = one k l x z (omega arith) (omega arith) (omega arith) (omega arith)
+weighed_one m n t a b h₁ s₁ None j k l x z e₁ f₁ = λ h s r. let u = row_tall_one r k in let v = row_wide_one r k in j (omega arith) (omega arith)
 
 -- a row has one height and one size
 pub row_once : {m : List ℕ} {n t a b h s h' s' : ℕ} → Row m n t a b h s → Row m n t a b h' s' → (h ≡ h') × (s ≡ s')
@@ -102,20 +108,35 @@ row_once (one k1 l1 x1 y1 e1 f1 u1 v1) (name k2 l2 x2 y2 e2 f2) = (omega arith, 
 row_once (one k1 l1 x1 y1 e1 f1 u1 v1) (two k2 l2 x2 y2 e2 f2 u2 v2) = (omega arith, omega arith)
 row_once (one k1 l1 x1 y1 e1 f1 u1 v1) (one k2 l2 x2 y2 e2 f2 u2 v2) = (omega arith, omega arith)
 
-pub weighed_row : (m : List ℕ) (n t a b h s : ℕ) (w : Weight) → Weighed m n t a b w → Tells (is_of w h s) (Row m n t a b h s)
-weighed_row m n t a b h s (Of x y) r = go (eqb x h) (eqb y s) refl refl
+-- what is weighed, against a height and a size
+pub weighed_told : (m : List ℕ) (n t a b h s : ℕ) (r : Option Weight) → Weighed m n t a b r → Tells (option_eq eq-value.it r (Some record { height = h; size = s })) (Row m n t a b h s)
+weighed_told m n t a b h s None x = x h s
+weighed_told m n t a b h s (Some w) x = go (eqb w.height h) (eqb w.size s) refl refl
   where
-    go : (p q : Bool) → eqb x h ≡ p → eqb y s ≡ q → Tells (both p q) (Row m n t a b h s)
-    go true true d e = rw (← eqb-true x h d, ← eqb-true y s e) r
-    go true false d e = λ z. eqb-false y s e (row_once r z).1
-    go false q d e = λ z. eqb-false x h d (row_once r z).0
-weighed_row m n t a b h s Unfit r = r h s
+    go : (p q : Bool) → eqb w.height h ≡ p → eqb w.size s ≡ q → Tells (p && q) (Row m n t a b h s)
+    go true true d e = rw (← eqb-true w.height h d, ← eqb-true w.size s e) x
+    go true false d e = λ z. eqb-false w.size s e (row_once x z).1
+    go false q d e = λ z. eqb-false w.height h d (row_once x z).0
 
-pub row_told : (m : List ℕ) (i t a b h s : ℕ) (w : Weight) (r : Bool) → Weighed m i t a b w → r ≡ is_of w h s → t ≡ at m i 0 → a ≡ at m i 1 → b ≡ at m i 2 → h ≡ at m i 3 → s ≡ at m i 4 → Tells r (RowAt m i)
-row_told m i t a b h s w r x q e₀ e₁ e₂ e₃ e₄ = rw (q, ← e₀, ← e₁, ← e₂, ← e₃, ← e₄) (weighed_row m i t a b h s w x)
+pub row_told : (m : List ℕ) (i t a b h s : ℕ) (w : Option Weight) (r : Bool) → Weighed m i t a b w → r ≡ option_eq eq-value.it w (Some record { height = h; size = s }) → t ≡ at m i 0 → a ≡ at m i 1 → b ≡ at m i 2 → h ≡ at m i 3 → s ≡ at m i 4 → Tells r (RowAt m i)
+row_told m i t a b h s w r x q e₀ e₁ e₂ e₃ e₄ = rw (q, ← e₀, ← e₁, ← e₂, ← e₃, ← e₄) (weighed_told m i t a b h s w x)
 
 pub rows_none : (m : List ℕ) → Rows m 0
 rows_none m = record { rows = λ i l. absurd (omega arith) }
 
 pub rows_more : (m : List ℕ) (n : ℕ) → Rows m n → RowAt m n → Rows m (n + 1)
 rows_more m n z x = record { rows = below_more (λ i. RowAt m i) n z.rows x }
+
+-- a test of each number below n, as `all` makes it
+pub each_told : (P : ℕ → Type 0) (n : ℕ) (r : Bool) → MatchBool r (AllWithin P (range_with_len 0 n) 0 (length (range_with_len 0 n))) ((k : ℕ) × (k < length (range_with_len 0 n)) × HoldsAt (λ i. P i → ⊥) (range_with_len 0 n) k) → Tells r ((i : ℕ) → i < n → P i)
+each_told P n true h = λ i l. let e : get_or (range_with_len 0 n) i 0 ≡ i = omega (arith, get_or-range_with_len 0 n i 0 l) in rw e at (h i 0 (omega arith) (rw (length-range_with_len 0 n) l))
+each_told P n false h =
+    λ z.
+    let l : h.0 < n = rw (length-range_with_len 0 n) at h.1 in
+    let e : get_or (range_with_len 0 n) h.0 0 ≡ h.0 = omega (arith, get_or-range_with_len 0 n h.0 0 l) in
+    let y : P h.0 → ⊥ = rw e at (h.2 0) in
+    y (z h.0 l)
+
+pub rows_told : (m : List ℕ) (n : ℕ) (r : Bool) → Tells r ((i : ℕ) → i < n → RowAt m i) → Tells r (Rows m n)
+rows_told m n true h = record { rows = h }
+rows_told m n false h = λ z. h z.rows

@@ -1,10 +1,9 @@
 -- What the functions on rows, order words and entries answer. Assumes nothing: these are definitions.
-use Rattle.std.specs.Prelude.{◌≡◌, Bool, true, false, List, [], ℕ, ◌+◌, ◌*◌, ◌≤◌, ◌<◌, max, get_or, length, eqb, Err, None, Ok, Option, Result, Some}
+use Rattle.std.specs.Prelude.{◌≡◌, Bool, true, false, List, [], ℕ, ◌+◌, ◌*◌, ◌≤◌, ◌<◌, max, get_or, length, Err, None, Ok, Option, Result, Some}
 use Rattle.logic.specs.Formula.{Formula, among}
 use Rattle.logic.specs.Held.{add}
-use Rattle.held.specs.Words.{at, order_at, code, code_at, count, most, words, orders, view, told, Row, Zeros, Wf, Agree, Extends}
+use Rattle.held.specs.Words.{at, order_at, code, code_at, count, most, words, orders, view, told, Row, Wf, Agree, Extends}
 use Rattle.held.specs.declared.rows.Weight.{Weight}
-use Rattle.held.specs.declared.rows.Weight.TheVariants as weight
 
 -- a bool that tells whether a claim holds
 abbrev pub Tells : Bool → Type 0 → Type 0
@@ -20,30 +19,14 @@ pub record OrderWord (m : List ℕ) (j r : ℕ) : Type 0 where
   pub fits : r < 65536
 
 -- the height and the size of a formula that may stand after the first n, or that it may not
-abbrev pub Weighed : List ℕ → ℕ → ℕ → ℕ → ℕ → Weight → Type 0
-Weighed m n t a b (weight.Of h s) = Row m n t a b h s
-Weighed m n t a b weight.Unfit = (h s : ℕ) → Row m n t a b h s → ⊥
+abbrev pub Weighed : List ℕ → ℕ → ℕ → ℕ → ℕ → Option Weight → Type 0
+Weighed m n t a b (Some w) = Row m n t a b w.height w.size
+Weighed m n t a b None = (h s : ℕ) → Row m n t a b h s → ⊥
 
 -- one more than the greater height, and one more than the two sizes, where both are in bounds
-abbrev pub Joined : ℕ → ℕ → ℕ → ℕ → Weight → Type 0
-Joined h₁ h₂ s₁ s₂ (weight.Of h s) = ((h ≡ 1 + max h₁ h₂) × (s ≡ 1 + s₁ + s₂)) × ((h ≤ 64) × (s < 65536))
-Joined h₁ h₂ s₁ s₂ weight.Unfit = 1 + max h₁ h₂ ≤ 64 → 1 + s₁ + s₂ < 65536 → ⊥
-
-abbrev pub both : Bool → Bool → Bool
-both true b = b
-both false b = false
-
-abbrev pub is_of : Weight → ℕ → ℕ → Bool
-is_of (weight.Of x y) h s = both (eqb x h) (eqb y s)
-is_of weight.Unfit h s = false
-
-abbrev pub tallOf : Weight → ℕ
-tallOf (weight.Of h s) = h
-tallOf weight.Unfit = 0
-
-abbrev pub wide_of : Weight → ℕ
-wide_of (weight.Of h s) = s
-wide_of weight.Unfit = 0
+abbrev pub Joined : ℕ → ℕ → ℕ → ℕ → Option Weight → Type 0
+Joined h₁ h₂ s₁ s₂ (Some w) = ((w.height ≡ 1 + max h₁ h₂) × (w.size ≡ 1 + s₁ + s₂)) × ((w.height ≤ 64) × (w.size < 65536))
+Joined h₁ h₂ s₁ s₂ None = 1 + max h₁ h₂ ≤ 64 → 1 + s₁ + s₂ < 65536 → ⊥
 
 -- of the first n order words, those below p have smaller codes than c, and the others not
 pub record Place (m : List ℕ) (n c p : ℕ) : Type 0 where
@@ -143,10 +126,6 @@ pub record TakenBack (m : List ℕ) (n : ℕ) (m' : List ℕ) : Type 0 where
   pub wf : Wf m'
   pub counted : count m' ≡ n
   pub agree : Agree m m' n
-
-pub record Cleared (m m' : List ℕ) : Type 0 where
-  pub long : length m' ≡ length m
-  pub zeros : Zeros m' 0 (length m)
 
 abbrev pub ResetTo : List ℕ → Bool → List ℕ → Type 0
 ResetTo m true m' = Wf m' × (view m' ≡ [])
