@@ -1,5 +1,6 @@
 -- What shape mode's tests answer on a zone's bytes: tests on formulas by their tags, and each rule's test by the rule's number. Assumes nothing.
-use Rattle.std.specs.Prelude.{◌≡◌, Bool, true, false, List, [], ◌∷◌, ℕ, eqb, get_or}
+use Rattle.std.specs.Prelude as code
+use Rattle.std.specs.Prelude.{◌≡◌, Bool, List, [], ◌∷◌, ℕ, eqb, get_or}
 use Rattle.std.proofs.Math.Option.{Option, none}
 use Rattle.logic.specs.Formula.{Formula}
 use Rattle.logic.specs.Parts.{tag_of}
@@ -12,6 +13,8 @@ use Rattle.tree.specs.declared.Span.{Span}
 use Rattle.tree.specs.declared.Node.{Node}
 use Rattle.verify.specs.Verdicts.{fault_of}
 use Rattle.verify.specs.declared.Fault.{Fault}
+use Rattle.verify.specs.declared.Order.{Order}
+use Rattle.verify.specs.declared.Order.TheVariants as order
 
 -- the formula has this tag
 abbrev pub tagged : ℕ → Formula → Bool
@@ -28,9 +31,9 @@ pub record IsOne (s : List ℕ) (z : Span) (r : Bool) : Type 0 where
   pub is : (fs : List Formula) → Holds s z fs → r ≡ one_shaped fs
 
 -- a shape and a count, in either order
-abbrev pub in_order : (is_shape_first is_shaped : Bool) (expected given : ℕ) → Option logic.Fault
-in_order true is_shaped expected given = need_shape is_shaped (need_premises expected given none)
-in_order false is_shaped expected given = need_premises expected given (need_shape is_shaped none)
+abbrev pub in_order : (first : Order) (is_shaped : Bool) (expected given : ℕ) → Option logic.Fault
+in_order order.Shape is_shaped expected given = need_shape is_shaped (need_premises expected given none)
+in_order order.Count is_shaped expected given = need_premises expected given (need_shape is_shaped none)
 
 -- each rule's test, by the rule's number; 15, 16 and 17 have none
 abbrev pub Test : Type 0
@@ -41,17 +44,17 @@ no_test fs got = none
 
 unfoldable pub shape_tests : List Test
 shape_tests =
-    (λ fs got. in_order true (axiom_shaped fs) 0 got)
+    (λ fs got. in_order order.Shape (axiom_shaped fs) 0 got)
     ∷ (λ fs got. need_premises 2 got none)
-    ∷ (λ fs got. in_order true (one_shaped fs) 0 got)
-    ∷ (λ fs got. in_order true (any (tagged 1) fs) 1 got)
-    ∷ (λ fs got. in_order false (any (tagged 6) fs) 2 got)
-    ∷ (λ fs got. in_order false (any (tagged 7) fs) 1 got)
-    ∷ (λ fs got. in_order true (any (tagged 2) fs) 0 got)
-    ∷ (λ fs got. in_order false (any (tagged 8) fs) 2 got)
-    ∷ (λ fs got. in_order false (any (tagged 9) fs) 1 got)
-    ∷ (λ fs got. in_order false (any (tagged 9) fs) 1 got)
-    ∷ (λ fs got. in_order false (any (tagged 11) fs) 1 got)
+    ∷ (λ fs got. in_order order.Shape (one_shaped fs) 0 got)
+    ∷ (λ fs got. in_order order.Shape (any (tagged 1) fs) 1 got)
+    ∷ (λ fs got. in_order order.Count (any (tagged 6) fs) 2 got)
+    ∷ (λ fs got. in_order order.Count (any (tagged 7) fs) 1 got)
+    ∷ (λ fs got. in_order order.Shape (any (tagged 2) fs) 0 got)
+    ∷ (λ fs got. in_order order.Count (any (tagged 8) fs) 2 got)
+    ∷ (λ fs got. in_order order.Count (any (tagged 9) fs) 1 got)
+    ∷ (λ fs got. in_order order.Count (any (tagged 9) fs) 1 got)
+    ∷ (λ fs got. in_order order.Count (any (tagged 11) fs) 1 got)
     ∷ (λ fs got. need_premises 1 got none)
     ∷ (λ fs got. need_premises 1 got none)
     ∷ (λ fs got. need_premises 1 got none)
@@ -68,5 +71,5 @@ pub record Left (s : List ℕ) (z : Span) (test : Formula → Bool) (fs : List F
   pub same : any test fs ≡ any test rest
 
 -- the fault at a node that stands where the places say
-pub record ShapeFault (s : List ℕ) (n : Node) (x : Fault) : Type 0 where
+pub record ShapeFault (s : List ℕ) (n : Node) (x : code.Option Fault) : Type 0 where
   pub is : (r : Rule) (q : Sequent) (ps : Trees) → NodeIs s n r q ps → x ≡ fault_of (shape_fault r q (premise_count ps))

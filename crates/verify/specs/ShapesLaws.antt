@@ -1,7 +1,10 @@
 -- Laws of `Shapes`: shape mode's test by the rule's number, and what the tests on bytes find. Assumes nothing.
-use Rattle.std.specs.Prelude.{◌≡◌, Bool, ◌⊎◌, ℕ, suc, ◌+◌, ◌-◌, ◌*◌, ◌≤◌, ◌<◌, length}
+use Rattle.std.specs.Prelude as code
+use Rattle.std.specs.Prelude.{◌≡◌, Some, None, Bool, not, ◌⊎◌, ℕ, zero, suc, ◌+◌, ◌-◌, ◌*◌, ◌≤◌, ◌<◌, length}
+use Rattle.std.specs.Bool.{then_some}
+use Rattle.std.specs.Option.{option_or}
 use Rattle.std.proofs.Math.Path.{refl, sym, ap}
-use Rattle.std.proofs.Common.{ap₂, ◌∙◌, subst, zero-le}
+use Rattle.std.proofs.Common.{ap₂, ◌∙◌, subst}
 use Rattle.std.proofs.Math.Bool.{true, false}
 use Rattle.std.proofs.lemmas.Bool.{false≢true}
 use mathlib.Core.List.{List, [], ◌∷◌}
@@ -19,18 +22,19 @@ use Rattle.logic.proofs.PartsLaws.{size_name, by_tag, same_signed}
 use Rattle.logic.specs.Sequent.{Sequent}
 use Rattle.logic.specs.Tree.{Rule, Axiom, Cut, OneIntro, BottomIntro, TensorIntro, ParIntro, TopIntro, WithIntro, PlusIntroLeft, PlusIntroRight, OfCourseIntro, WhyNotIntro, Weakening, Contraction, Dereliction, FocusPositive, FocusNegative, Blur, premise_count}
 use Rattle.logic.specs.Verify as logic
-use Rattle.logic.specs.Verify.{any, axiom_shaped, one_shaped, need, need_premises, shape_fault}
+use Rattle.logic.specs.Verify.{any, axiom_shaped, one_shaped, need, need_shape, need_premises, shape_fault}
 use Rattle.logic.specs.VerifyLaws.{any_head, any_tail, any_same, among_any}
 use Rattle.tree.specs.Places.{rule_number, Within, Passed, FormulaAt, Holds}
 use Rattle.tree.specs.StandsLaws.{stands_head, stands_tail}
 use Rattle.tree.specs.FormulaPlaces.{tag_at, atom_name, neg_atom_name, First, holds_first, holds_none}
 use Rattle.tree.specs.declared.Span.{Span}
 use Rattle.tree.specs.declared.Node.{Node}
-use Rattle.strict.specs.Rules.{NoneOf}
 use Rattle.verify.specs.Verdicts.{fault_of}
-use Rattle.verify.specs.Shapes.{tagged, in_order, HasTag, IsAxiom, IsOne, no_test, shape_tests, test_of, ShapeFault, Left}
+use Rattle.verify.specs.Shapes.{tagged, in_order, HasTag, IsAxiom, IsOne, Test, no_test, shape_tests, test_of, ShapeFault, Left}
 use Rattle.verify.specs.declared.Fault.{Fault}
 use Rattle.verify.specs.declared.Fault.TheVariants as fault
+use Rattle.verify.specs.declared.Order.{Order}
+use Rattle.verify.specs.declared.Order.TheVariants as order
 
 -- ---- tests by tag
 
@@ -84,7 +88,7 @@ shape_by_number (FocusPositive i) q got = refl
 shape_by_number (FocusNegative i) q got = refl
 shape_by_number Blur q got = refl
 
-module _ {s : List ℕ} {n : Node} {x : Fault} where
+module _ {s : List ℕ} {n : Node} {x : code.Option Fault} where
   -- the test of the number found at the node, on its zone and its count
   pub shape_found : {k : ℕ} → n.rule ≡ k → ((fs : List Formula) → Holds s n.linear fs → x ≡ fault_of (test_of k fs n.premises)) → ShapeFault s n x
   shape_found {k} e h =
@@ -94,20 +98,37 @@ module _ {s : List ℕ} {n : Node} {x : Fault} where
             ∙ ap fault_of (ap (test_of k q.linear) is.count_is ∙ ap (λ (m : ℕ). test_of m q.linear (premise_count ps)) (sym e ∙ is.rule_is) ∙ sym (shape_by_number r q (premise_count ps)));
       }
 
+  -- a test that rules share, from the first of them on
+  pub shape_shared : (first count : ℕ) {test : Test} → ((k : ℕ) → k < count → test_of (first + k) ≡ test) → first ≤ n.rule → n.rule < first + count → ((fs : List Formula) → Holds s n.linear fs → x ≡ fault_of (test fs n.premises)) → ShapeFault s n x
+  shape_shared first count {test} same low high h =
+      let k : n.rule ≡ first + (n.rule - first) = omega arith in
+      let shared : test_of n.rule ≡ test = ap test_of k ∙ same (n.rule - first) (omega arith) in
+      shape_found refl λ fs there. h fs there ∙ sym (ap (λ (t : Test). fault_of (t fs n.premises)) shared)
+
+-- a plus on either side
+pub plus_shared : (k : ℕ) → k < 2 → test_of (8 + k) ≡ (λ fs got. in_order order.Count (any (tagged 9) fs) 1 got)
+unfolding test_of shape_tests
+plus_shared zero h = refl
+plus_shared (suc zero) h = refl
+plus_shared (suc (suc k)) h = absurd (omega arith)
+
+-- the rules whose count alone is tested
+pub count_shared : (k : ℕ) → k < 4 → test_of (11 + k) ≡ (λ fs got. need_premises 1 got none)
+unfolding test_of shape_tests
+count_shared zero h = refl
+count_shared (suc zero) h = refl
+count_shared (suc (suc zero)) h = refl
+count_shared (suc (suc (suc zero))) h = refl
+count_shared (suc (suc (suc (suc k)))) h = absurd (omega arith)
+
 -- past 14 there is no test
 test_none : (n : ℕ) (fs : List Formula) (got : ℕ) → 15 ≤ n → test_of n fs got ≡ none
 unfolding test_of shape_tests
 test_none n fs got h = ap (λ (t : List Formula → ℕ → Option logic.Fault). t fs got) (get_or-eq_default shape_tests no_test h)
 
-next : (k n : ℕ) → k ≤ n → (n ≡ k → ⊥) → suc k ≤ n
-next k n h h' = omega arith
-
-past_14 : (n : ℕ) → NoneOf (Unit {0}) (0 ∷ 1 ∷ 2 ∷ 3 ∷ 4 ∷ 5 ∷ 6 ∷ 7 ∷ 8 ∷ 9 ∷ 10 ∷ 11 ∷ 12 ∷ 13 ∷ 14 ∷ []) n → 15 ≤ n
-past_14 n h = next 14 n (next 13 n (next 12 n (next 11 n (next 10 n (next 9 n (next 8 n (next 7 n (next 6 n (next 5 n (next 4 n (next 3 n (next 2 n (next 1 n (next 0 n zero-le h.0.0.0.0.0.0.0.0.0.0.0.0.0.0.1) h.0.0.0.0.0.0.0.0.0.0.0.0.0.1) h.0.0.0.0.0.0.0.0.0.0.0.0.1) h.0.0.0.0.0.0.0.0.0.0.0.1) h.0.0.0.0.0.0.0.0.0.0.1) h.0.0.0.0.0.0.0.0.0.1) h.0.0.0.0.0.0.0.0.1) h.0.0.0.0.0.0.0.1) h.0.0.0.0.0.0.1) h.0.0.0.0.0.1) h.0.0.0.0.1) h.0.0.0.1) h.0.0.1) h.0.1) h.1
-
-pub shape_none : {s : List ℕ} {n : Node} → NoneOf (Unit {0}) (0 ∷ 1 ∷ 2 ∷ 3 ∷ 4 ∷ 5 ∷ 6 ∷ 7 ∷ 8 ∷ 9 ∷ 10 ∷ 11 ∷ 12 ∷ 13 ∷ 14 ∷ []) n.rule → ShapeFault s n fault.None
+pub shape_none : {s : List ℕ} {n : Node} → 15 ≤ n.rule → ShapeFault s n None
 unfolding fault_of
-shape_none {s} {n} h = shape_found refl λ fs there. sym (ap fault_of (test_none n.rule fs n.premises (past_14 n.rule h)))
+shape_none {s} {n} h = shape_found refl λ fs there. sym (ap fault_of (test_none n.rule fs n.premises h))
 
 -- ---- counts, and a shape before or after
 
@@ -118,33 +139,38 @@ module _ (expected given : ℕ) where
   differ : (f : logic.Fault) (o : Option logic.Fault) → (given ≡ expected → ⊥) → need (eqb given expected) f o ≡ some f
   differ f o e = rw (ne_eqb given expected e)
 
-  pub count_passed : given ≡ expected → fault.None ≡ fault_of (need_premises expected given none)
+  pub count_passed : given ≡ expected → None ≡ fault_of (need_premises expected given none)
   unfolding fault_of
   count_passed e = sym (ap fault_of (agree (logic.wrong_premise_count expected given) none e))
 
-  pub count_wrong : (given ≡ expected → ⊥) → fault.Count expected given ≡ fault_of (need_premises expected given none)
+  pub count_wrong : (given ≡ expected → ⊥) → Some (fault.Count expected given) ≡ fault_of (need_premises expected given none)
   unfolding fault_of
   count_wrong e = sym (ap fault_of (differ (logic.wrong_premise_count expected given) none e))
 
-  -- a shape that is there, and one that is not
-  pub order_shaped : (first : Bool) {is_shaped : Bool} {x : Fault} → is_shaped ≡ true → x ≡ fault_of (need_premises expected given none) → x ≡ fault_of (in_order first is_shaped expected given)
-  order_shaped true e h = rw e h
-  order_shaped false e h = rw e h
+  -- the fault of a shape that is not there, and that of a count, in the rule's order
+  module _ (is_shaped : Bool) {x y : code.Option Fault} (shape : x ≡ then_some (not is_shaped) fault.Invalid) (count : y ≡ fault_of (need_premises expected given none)) where
+    pub order_shape : option_or x y ≡ fault_of (in_order order.Shape is_shaped expected given)
+    unfolding fault_of
+    order_shape = rw (shape, count) (go is_shaped)
+      where
+        go : (b : Bool) → option_or (then_some (not b) fault.Invalid) (fault_of (need_premises expected given none)) ≡ fault_of (in_order order.Shape b expected given)
+        go true = refl
+        go false = refl
 
-  pub order_unshaped : {first is_shaped : Bool} → is_shaped ≡ false → first ≡ true → fault.Invalid ≡ fault_of (in_order first is_shaped expected given)
-  unfolding fault_of
-  order_unshaped e k = rw (e, k)
+    pub order_count : option_or y x ≡ fault_of (in_order order.Count is_shaped expected given)
+    unfolding fault_of
+    order_count = rw (shape, count) (go is_shaped (eqb given expected))
+      where
+        wrong : logic.Fault
+        wrong = logic.wrong_premise_count expected given
 
-  pub order_counted : {first is_shaped : Bool} → is_shaped ≡ false → first ≡ false → given ≡ expected → fault.Invalid ≡ fault_of (in_order first is_shaped expected given)
-  unfolding fault_of
-  order_counted e k h = rw (e, k) (sym (ap fault_of (agree (logic.wrong_premise_count expected given) (some logic.invalid_rule) h)))
-
-  pub order_miscounted : {first is_shaped : Bool} → is_shaped ≡ false → first ≡ false → (given ≡ expected → ⊥) → fault.Count expected given ≡ fault_of (in_order first is_shaped expected given)
-  unfolding fault_of
-  order_miscounted e k h = rw (e, k) (sym (ap fault_of (differ (logic.wrong_premise_count expected given) (some logic.invalid_rule) h)))
+        go : (b c : Bool) → option_or (fault_of (need c wrong none)) (then_some (not b) fault.Invalid) ≡ fault_of (need c wrong (need_shape b none))
+        go b false = refl
+        go true true = refl
+        go false true = refl
 
   -- the shape's own answer in its place
-  pub order_answer : (first : Bool) {b b' : Bool} {x : Fault} → x ≡ fault_of (in_order first b expected given) → b ≡ b' → x ≡ fault_of (in_order first b' expected given)
+  pub order_answer : (first : Order) {b b' : Bool} {x : code.Option Fault} → x ≡ fault_of (in_order first b expected given) → b ≡ b' → x ≡ fault_of (in_order first b' expected given)
   order_answer first e k = e ∙ ap (λ (c : Bool). fault_of (in_order first c expected given)) k
 
 -- ---- a tag looked for

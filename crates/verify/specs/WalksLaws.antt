@@ -1,7 +1,9 @@
 -- Laws of `Walks`: what a node's own test and its premises, one after another, make of the walk. Assumes nothing.
 use Rattle.std.proofs.Math.Path.{◌≡◌, refl, sym, ap, subst}
-use Rattle.std.proofs.Common.{◌∙◌, ⊎_elim, add-one, length-append}
-use Rattle.std.specs.Prelude.{◌⊎◌, Bool, List, ◌∷◌}
+use Rattle.std.proofs.Common.{◌∙◌, add-one, length-append}
+use Rattle.std.specs.Prelude as code
+use Rattle.std.specs.Prelude.{Some, None, Result, Ok, Err, Bool, List, ◌∷◌}
+use Rattle.std.proofs.lemmas.Option.{same_Some}
 use Rattle.std.proofs.Math.Bool.{true, false}
 use Rattle.std.proofs.Math.Option.{Option, none, some}
 use Prim.Native.Nat.{ℕ, suc, ◌+◌, ◌-◌, ◌≤◌, ◌<◌}
@@ -28,32 +30,27 @@ use Rattle.strict.specs.Steps.{LegalStep}
 use Rattle.tree.specs.declared.Node.{Node}
 use Rattle.tree.specs.declared.Subtree as code_subtree
 use Rattle.tree.specs.declared.Subtree.TheVariants as subtree
-use Rattle.verify.specs.Verdicts.{fault_of, verdict_of, told, walk_of, checked}
+use Rattle.verify.specs.Verdicts.{fault_of, rejected_of, verdict_of, told, walk_of, checked}
 use Rattle.verify.specs.Shapes.{ShapeFault}
 use Rattle.verify.specs.Walks.{WalkWithin, mode_test, Faulted, Walk, PremisesWalk}
-use Rattle.verify.specs.declared.Fault as code_fault
+use Rattle.verify.specs.declared.Fault.{Fault}
 use Rattle.verify.specs.declared.Fault.TheVariants as fault
-use Rattle.verify.specs.declared.Verified.{Verified}
-use Rattle.verify.specs.declared.Verified.TheVariants as verified
-use Rattle.verify.specs.declared.Walked.{Walked}
-use Rattle.verify.specs.declared.Walked.TheVariants as walked
+use Rattle.verify.specs.declared.Rejected.{Rejected}
+use Rattle.verify.specs.declared.Rejected.TheVariants as rejected
+use Rattle.verify.specs.declared.Passed.{Passed}
 
 -- ---- the fault at a node, in both modes
 
--- the tags of the other faults
-pub other_tag : (tag : code_fault.Fault → ℕ) → tag fault.None ≡ 0 → {x : code_fault.Fault} → (tag x ≡ 1) ⊎ ((tag x ≡ 2) ⊎ (tag x ≡ 3)) → x ≡ fault.None → ⊥
-other_tag tag e {x} w k = let none : tag x ≡ 0 = ap tag k ∙ e in ⊎_elim (λ h. omega arith) (⊎_elim (λ h. omega arith) (λ h. omega arith)) w
-
-fault_none : (o : Option logic.Fault) → fault_of o ≡ fault.None → o ≡ none
+fault_none : (o : Option logic.Fault) → fault_of o ≡ None → o ≡ none
 unfolding fault_of
 fault_none none e = refl
-fault_none (some logic.invalid_rule) e = let z : ◌≡◌ {A = ℕ} 0 1 = cc in absurd (omega arith)
-fault_none (some (logic.wrong_premise_count expected given)) e = let z : ◌≡◌ {A = ℕ} 0 1 = cc in absurd (omega arith)
-fault_none (some logic.context_mismatch) e = let z : ◌≡◌ {A = ℕ} 0 1 = cc in absurd (omega arith)
+fault_none (some logic.invalid_rule) e = cc
+fault_none (some (logic.wrong_premise_count expected given)) e = cc
+fault_none (some logic.context_mismatch) e = cc
 
-module _ {s : List ℕ} {n : Node} {x : code_fault.Fault} (shape : ShapeFault s n x) where
+module _ {s : List ℕ} {n : Node} {x : code.Option Fault} (shape : ShapeFault s n x) where
   -- shape mode's comes first
-  pub fault_first : (is_strict : Bool) → (x ≡ fault.None → ⊥) → Faulted (mode_test is_strict) s n x
+  pub fault_first : (is_strict : Bool) → (x ≡ None → ⊥) → Faulted (mode_test is_strict) s n x
   unfolding mode_test strict_fault fault_of
   fault_first false h = record { is = λ r q ps is fits. shape.is r q ps is }
   fault_first true h = record { is = λ r q ps is fits. go (shape_fault r q (premise_count ps)) _ (shape.is r q ps is) }
@@ -62,8 +59,8 @@ module _ {s : List ℕ} {n : Node} {x : code_fault.Fault} (shape : ShapeFault s 
       go none g e = absurd (h e)
       go (some f) g e = e
 
-  module _ (passed : x ≡ fault.None) {is_strict : Bool} where
-    pub fault_shape : is_strict ≡ false → Faulted (mode_test is_strict) s n fault.None
+  module _ (passed : x ≡ None) {is_strict : Bool} where
+    pub fault_shape : is_strict ≡ false → Faulted (mode_test is_strict) s n None
     unfolding mode_test
     fault_shape e = rw e (record { is = λ r q ps is fits. sym passed ∙ shape.is r q ps is })
 
@@ -77,11 +74,11 @@ module _ {s : List ℕ} {n : Node} {x : code_fault.Fault} (shape : ShapeFault s 
             rw (no_fault, ← step.right r q ps is fits no_fault) refl;
       })
 
-      pub fault_mismatch : b ≡ false → Faulted (mode_test is_strict) s n fault.Mismatch
+      pub fault_mismatch : b ≡ false → Faulted (mode_test is_strict) s n (Some fault.Mismatch)
       unfolding fault_of
       fault_mismatch e = rw e at fault_step
 
-      pub fault_legal : b ≡ true → Faulted (mode_test is_strict) s n fault.None
+      pub fault_legal : b ≡ true → Faulted (mode_test is_strict) s n None
       unfolding fault_of
       fault_legal e = rw e at fault_step
 
@@ -91,23 +88,23 @@ depth_positive : (t : Tree) → 1 ≤ depth t
 unfolding depth
 depth_positive (node r q ps) = omega arith
 
--- a fault is told by the verdict
-fault_told : {x : code_fault.Fault} (r : Rule) {m : ℕ} (number wrappers : ℕ) → (x ≡ fault.None → ⊥) → (o : Option logic.Fault) → m ≡ rule_number r → x ≡ fault_of o → (below : logic.Verdict) (end all : ℕ) → walked.Failed (told x m number wrappers) ≡ walk_of (own_verdict r number wrappers o below) end all
-unfolding fault_of told verdict_of walk_of
-fault_told r number wrappers h none e k below end all = absurd (h k)
-fault_told r number wrappers h (some logic.invalid_rule) e k below end all = rw (e, k)
-fault_told r number wrappers h (some (logic.wrong_premise_count expected given)) e k below end all = rw (e, k)
-fault_told r number wrappers h (some logic.context_mismatch) e k below end all = rw (e, k)
+-- a fault is told of its node
+fault_told : {x : Fault} (r : Rule) {m : ℕ} (number wrappers : ℕ) → (o : Option logic.Fault) → m ≡ rule_number r → Some x ≡ fault_of o → (below : logic.Verdict) (end all : ℕ) → Err (told x m number wrappers) ≡ walk_of (own_verdict r number wrappers o below) end all
+unfolding fault_of told rejected_of walk_of
+fault_told r number wrappers none k e below end all = cc
+fault_told r number wrappers (some logic.invalid_rule) k e below end all = let f = same_Some _ _ e in rw (f, k)
+fault_told r number wrappers (some (logic.wrong_premise_count expected given)) k e below end all = let f = same_Some _ _ e in rw (f, k)
+fault_told r number wrappers (some logic.context_mismatch) k e below end all = let f = same_Some _ _ e in rw (f, k)
 
 module _ (test : Rule → Sequent → Trees → Option logic.Fault) (s : List ℕ) (at levels number wrappers : ℕ) (inside : at ≤ length s) (few : number ≤ at) where
   -- no level is left, or no byte: no tree stands there
-  pub walk_no_level : levels ≡ 0 → Walk test s at levels number wrappers (walked.Passed at number)
+  pub walk_no_level : levels ≡ 0 → Walk test s at levels number wrappers (Ok (record { next = at; number = number }))
   walk_no_level e = record { within = (inside, few); is = λ t there fits low. absurd (omega (arith, depth_positive t)) }
 
-  pub walk_no_byte : at ≡ length s → Walk test s at levels number wrappers (walked.Passed at number)
+  pub walk_no_byte : at ≡ length s → Walk test s at levels number wrappers (Ok (record { next = at; number = number }))
   walk_no_byte e = record { within = (inside, few); is = λ t there fits low. absurd (omega (arith, node_long t, there.inside)) }
 
-  module _ (n : Node) (found : NodeFound s at n) {x : code_fault.Fault} (tested : Faulted test s n x) where
+  module _ (n : Node) (found : NodeFound s at n) {x : code.Option Fault} (tested : Faulted test s n x) where
     -- the fault, on the tree that stands there
     fault_is : (r : Rule) (q : Sequent) (ps : Trees) → Stands s at (write_node (node r q ps)) → NodesFit (node r q ps) → x ≡ fault_of (test r q ps)
     fault_is r q ps there fits = tested.is r q ps (found.is r q ps there fits.0) fits.1
@@ -116,16 +113,16 @@ module _ (test : Rule → Sequent → Trees → Option logic.Fault) (s : List �
     rule_is r q ps there fits = (found.is r q ps there fits.0).rule_is
 
     -- a node whose own test finds a fault
-    pub walk_failed : (x ≡ fault.None → ⊥) → Walk test s at levels number wrappers (walked.Failed (told x n.rule number wrappers))
+    pub walk_failed : {f : Fault} → x ≡ Some f → Walk test s at levels number wrappers (Err (told f n.rule number wrappers))
     unfolding verify_from walk_of
-    walk_failed h = record { within = tt; is = by_node }
+    walk_failed {f} e = record { within = tt; is = by_node }
       where
-        by_node : (t : Tree) → Stands s at (write_node t) → NodesFit t → depth t ≤ levels → walked.Failed (told x n.rule number wrappers) ≡ walk_of (verify_from test t number wrappers) (at + length (write_node t)) (number + nodes t)
+        by_node : (t : Tree) → Stands s at (write_node t) → NodesFit t → depth t ≤ levels → Err (told f n.rule number wrappers) ≡ walk_of (verify_from test t number wrappers) (at + length (write_node t)) (number + nodes t)
         by_node (node r q ps) there fits low =
-            fault_told r number wrappers h (test r q ps) (rule_is r q ps there fits) (fault_is r q ps there fits) _ (at + length (write_node (node r q ps))) (number + nodes (node r q ps))
+            fault_told r number wrappers (test r q ps) (rule_is r q ps there fits) (sym e ∙ fault_is r q ps there fits) _ (at + length (write_node (node r q ps))) (number + nodes (node r q ps))
 
     -- a node that passes its own test: its premises decide
-    pub walk_premises : x ≡ fault.None → 0 < levels → {w : Walked} → PremisesWalk test s n.next n.premises (levels - 1) (number + 1) (wrappers + 1) w → Walk test s at levels number wrappers w
+    pub walk_premises : x ≡ None → 0 < levels → {w : Result Passed Rejected} → PremisesWalk test s n.next n.premises (levels - 1) (number + 1) (wrappers + 1) w → Walk test s at levels number wrappers w
     unfolding verify_from fault_of depth nodes
     walk_premises e level {w} p = record { within = p.within; is = by_node }
       where
@@ -172,47 +169,47 @@ module _ (test : Rule → Sequent → Trees → Option logic.Fault) (s : List �
       record { inside = h; few = k; remain = λ ts there fits low e. record { trees = ts; stands = there; fit = fits; low = low; count_is = e; same = refl; ends = refl; numbered = refl } }
 
   module _ {left p m : ℕ} (k : Walking left p m) where
-    pub walking_end : left ≡ 0 → PremisesWalk test s at count levels number wrappers (walked.Passed p m)
+    pub walking_end : left ≡ 0 → PremisesWalk test s at count levels number wrappers (Ok (record { next = p; number = m }))
     unfolding walk_of verify_from premise_count write_nodes nodes
     walking_end e = record { within = (k.inside, k.few); is = λ ts there fits low e'. let l = k.remain ts there fits low e' in none_left l.trees (l.count_is ∙ e) l.same l.ends l.numbered }
       where
-        none_left : (us : Trees) {v : logic.Verdict} {end all : ℕ} → premise_count us ≡ 0 → v ≡ verify_premises test us m wrappers → p + length (write_nodes us) ≡ end → m + nodes* us ≡ all → walked.Passed p m ≡ walk_of v end all
+        none_left : (us : Trees) {v : logic.Verdict} {end all : ℕ} → premise_count us ≡ 0 → v ≡ verify_premises test us m wrappers → p + length (write_nodes us) ≡ end → m + nodes* us ≡ all → Ok (record { next = p; number = m }) ≡ walk_of v end all
         none_left ∅ {v} {end} {all} e₁ e₂ e₃ e₄ =
             let a : p ≡ end = omega arith in
             let b : m ≡ all = omega arith in
             rw (e₂, a, b) refl
         none_left (t ▹ ts) e₁ e₂ e₃ e₄ = absurd (omega arith)
 
-    module _ (more : 0 < left) {x : Walked} (w : Walk test s p levels m wrappers x) where
+    module _ (more : 0 < left) {x : Result Passed Rejected} (w : Walk test s p levels m wrappers x) where
       -- what the first of those left made of the walk
       first_is : (t : Tree) (ts : Trees) → Stands s p (write_nodes (t ▹ ts)) → NodesFit* (t ▹ ts) → depths (t ▹ ts) ≤ levels → x ≡ walk_of (verify_from test t m wrappers) (p + length (write_node t)) (m + nodes t)
       unfolding write_nodes depths
       first_is t ts there fits low = w.is t (stands_left (write_node t) (write_nodes ts) there) fits.0 (omega arith)
 
-      pub walking_failed : {v : Verified} → x ≡ walked.Failed v → PremisesWalk test s at count levels number wrappers (walked.Failed v)
+      pub walking_failed : {v : Rejected} → x ≡ Err v → PremisesWalk test s at count levels number wrappers (Err v)
       unfolding walk_of verify_from premise_count
       walking_failed {v} e = record { within = tt; is = λ ts there fits low e'. let l = k.remain ts there fits low e' in go l.trees (at + length (write_nodes ts)) (number + nodes* ts) l.stands l.fit l.low l.count_is l.same }
         where
-          by_first : (a b : logic.Verdict) (next all next' all' : ℕ) → walked.Failed v ≡ walk_of a next all → walked.Failed v ≡ walk_of (first_verdict a b) next' all'
-          by_first logic.accepted b next all next' all' e = let z : ◌≡◌ {A = ℕ} 0 1 = cc in absurd (omega arith)
+          by_first : (a b : logic.Verdict) (next all next' all' : ℕ) → Err v ≡ walk_of a next all → Err v ≡ walk_of (first_verdict a b) next' all'
+          by_first logic.accepted b next all next' all' e = cc
           by_first (logic.rejected r n w f) b next all next' all' e = e
 
-          go : (us : Trees) (end all : ℕ) {c : logic.Verdict} → Stands s p (write_nodes us) → NodesFit* us → depths us ≤ levels → premise_count us ≡ left → c ≡ verify_premises test us m wrappers → walked.Failed v ≡ walk_of c end all
+          go : (us : Trees) (end all : ℕ) {c : logic.Verdict} → Stands s p (write_nodes us) → NodesFit* us → depths us ≤ levels → premise_count us ≡ left → c ≡ verify_premises test us m wrappers → Err v ≡ walk_of c end all
           go ∅ end all there fits low count same = absurd (omega arith)
           go (t ▹ ts) end all {c} there fits low count same =
               rw same (by_first (verify_from test t m wrappers) (verify_premises test ts (m + nodes t) wrappers) (p + length (write_node t)) (m + nodes t) end all (sym e ∙ first_is t ts there fits low))
 
-      pub walking_next : {next number' : ℕ} → x ≡ walked.Passed next number' → Walking (left - 1) next number'
+      pub walking_next : {q : Passed} → x ≡ Ok q → Walking (left - 1) q.next q.number
       unfolding walk_of verify_from premise_count write_nodes nodes depths
-      walking_next {next} {number'} e =
-          let within : WalkWithin (length s) (walked.Passed next number') = subst (WalkWithin (length s)) e w.within in
+      walking_next {q} e =
+          let within : WalkWithin (length s) (Ok q) = subst (WalkWithin (length s)) e w.within in
           record { inside = within.0; few = within.1; remain = λ ts there fits low e'. let l = k.remain ts there fits low e' in go l.trees l.stands l.fit l.low l.count_is l.same l.ends l.numbered }
         where
-          by_first : (t : Tree) (ts : Trees) (a : logic.Verdict) → verify_from test t m wrappers ≡ a → walked.Passed next number' ≡ walk_of a (p + length (write_node t)) (m + nodes t) → Over test p m wrappers next number' t ts
+          by_first : (t : Tree) (ts : Trees) (a : logic.Verdict) → verify_from test t m wrappers ≡ a → Ok q ≡ walk_of a (p + length (write_node t)) (m + nodes t) → Over test p m wrappers q.next q.number t ts
           by_first t ts logic.accepted e₁ e₂ = record { next_is = cc; number_is = cc; same = rw e₁ }
-          by_first t ts (logic.rejected r n w f) e₁ e₂ = let z : ◌≡◌ {A = ℕ} 0 1 = cc in absurd (omega arith)
+          by_first t ts (logic.rejected r n w f) e₁ e₂ = absurd cc
 
-          go : (us : Trees) {c : logic.Verdict} {end all : ℕ} → Stands s p (write_nodes us) → NodesFit* us → depths us ≤ levels → premise_count us ≡ left → c ≡ verify_premises test us m wrappers → p + length (write_nodes us) ≡ end → m + nodes* us ≡ all → Left test s levels wrappers (left - 1) next number' c end all
+          go : (us : Trees) {c : logic.Verdict} {end all : ℕ} → Stands s p (write_nodes us) → NodesFit* us → depths us ≤ levels → premise_count us ≡ left → c ≡ verify_premises test us m wrappers → p + length (write_nodes us) ≡ end → m + nodes* us ≡ all → Left test s levels wrappers (left - 1) q.next q.number c end all
           go ∅ there fits low count same ends numbered = absurd (omega arith)
           go (t ▹ ts) {c} there fits low count same ends numbered =
               let over = by_first t ts (verify_from test t m wrappers) refl (sym e ∙ first_is t ts there fits low) in
@@ -257,7 +254,7 @@ module _ (s : List ℕ) (bytes : Bytes s) {x : code_subtree.Subtree} {next deep 
   read_short = record { short = omega (arith, was_read.long, was_read.back.fits.body_short) }
 
 -- the walk of the tree that was read, and the answer
-record Through (test : Rule → Sequent → Trees → Option logic.Fault) (s : List ℕ) (w : Walked) : Type 0 where
+record Through (test : Rule → Sequent → Trees → Option logic.Fault) (s : List ℕ) (w : Result Passed Rejected) : Type 0 where
   verdict : logic.Verdict
   answer : checked test (read_tree s) ≡ verdict_of verdict
   end : ℕ
@@ -265,11 +262,11 @@ record Through (test : Rule → Sequent → Trees → Option logic.Fault) (s : L
   walked_is : w ≡ walk_of verdict end all
 
 module _ (test : Rule → Sequent → Trees → Option logic.Fault) (s : List ℕ) where
-  pub checked_refused : {x : code_subtree.Subtree} {why : Refusal} → x ≡ tree_read (length s) (read_tree s) → x ≡ subtree.Refused why → verified.Refused why ≡ checked test (read_tree s)
+  pub checked_refused : {x : code_subtree.Subtree} {why : Refusal} → x ≡ tree_read (length s) (read_tree s) → x ≡ subtree.Refused why → Err (rejected.Refused why) ≡ checked test (read_tree s)
   unfolding checked
-  checked_refused e₁ e₂ = let by = tree_refused (length s) (read_tree s) e₁ e₂ in rw by.is (ap verified.Refused by.code)
+  checked_refused e₁ e₂ = let by = tree_refused (length s) (read_tree s) e₁ e₂ in rw by.is (ap (λ (k : Refusal). Err (rejected.Refused k)) by.code)
 
-  module _ (bytes : Bytes s) {x : code_subtree.Subtree} {next deep : ℕ} (e₁ : x ≡ tree_read (length s) (read_tree s)) (e₂ : x ≡ subtree.Whole next deep) {w : Walked} (walk : Walk test s 3 highest_tree 0 0 w) where
+  module _ (bytes : Bytes s) {x : code_subtree.Subtree} {next deep : ℕ} (e₁ : x ≡ tree_read (length s) (read_tree s)) (e₂ : x ≡ subtree.Whole next deep) {w : Result Passed Rejected} (walk : Walk test s 3 highest_tree 0 0 w) where
     -- the tree that was read stands behind the three bytes
     through : Through test s w
     unfolding checked write_tree message
@@ -285,18 +282,18 @@ module _ (test : Rule → Sequent → Trees → Option logic.Fault) (s : List �
           walked_is = walk.is t there was.back.fits.nodes_fit was.back.fits.depth_fits;
         }
 
-    pub checked_accepted : {next' number : ℕ} → w ≡ walked.Passed next' number → verified.Accepted ≡ checked test (read_tree s)
+    pub checked_accepted : {q : Passed} → w ≡ Ok q → Ok tt ≡ checked test (read_tree s)
     unfolding verdict_of walk_of
     checked_accepted e = let t = through in sym (t.answer ∙ by_verdict t.verdict t.end t.all (sym t.walked_is ∙ e))
       where
-        by_verdict : (v : logic.Verdict) (end all : ℕ) {a b : ℕ} → walk_of v end all ≡ walked.Passed a b → verdict_of v ≡ verified.Accepted
+        by_verdict : (v : logic.Verdict) (end all : ℕ) {q : Passed} → walk_of v end all ≡ Ok q → verdict_of v ≡ Ok tt
         by_verdict logic.accepted end all e = refl
-        by_verdict (logic.rejected r n w f) end all e = let z : ◌≡◌ {A = ℕ} 0 1 = cc in absurd (omega arith)
+        by_verdict (logic.rejected r n w f) end all e = absurd cc
 
-    pub checked_failed : {v : Verified} → w ≡ walked.Failed v → v ≡ checked test (read_tree s)
-    unfolding walk_of
+    pub checked_failed : {v : Rejected} → w ≡ Err v → Err v ≡ checked test (read_tree s)
+    unfolding verdict_of walk_of
     checked_failed {v} e = let t = through in sym (t.answer ∙ by_verdict t.verdict t.end t.all (sym t.walked_is ∙ e))
       where
-        by_verdict : (c : logic.Verdict) (end all : ℕ) → walk_of c end all ≡ walked.Failed v → verdict_of c ≡ v
-        by_verdict logic.accepted end all e = let z : ◌≡◌ {A = ℕ} 0 1 = cc in absurd (omega arith)
+        by_verdict : (c : logic.Verdict) (end all : ℕ) → walk_of c end all ≡ Err v → verdict_of c ≡ Err v
+        by_verdict logic.accepted end all e = absurd cc
         by_verdict (logic.rejected r n w f) end all e = cc

@@ -15,24 +15,24 @@ ghost use Rattle.verify.specs.Walks.{mode_test, Faulted, Walk, PremisesWalk};
 use formula::Refusal;
 use tree::{HIGHEST_TREE, Node, Span, Subtree};
 
-// Which test comes first.
-const SHAPE_FIRST: bool = true;
-
-const COUNT_FIRST: bool = false;
+// Which test of a rule comes first: its shape or its premises' count.
+#[derive(Clone, Copy)]
+pub enum Order {
+    Shape,
+    Count,
+}
 
 // What is wrong at a node.
 #[derive(Clone, Copy)]
 pub enum Fault {
-    None,
     Invalid,
     Count { expected: usize, got: usize },
     Mismatch,
 }
 
-// The answer of `verify`. A rule is its number; nodes are numbered in preorder, the root 0; wrappers are the steps below the root.
+// Why `verify` does not accept. A rule is its number; nodes are numbered in preorder, the root 0; wrappers are the steps below the root.
 #[derive(Clone, Copy)]
-pub enum Verified {
-    Accepted,
+pub enum Rejected {
     Refused(Refusal),
     Invalid {
         rule: u8,
@@ -53,11 +53,11 @@ pub enum Verified {
     },
 }
 
-// A part of the tree passed, with the next place and the next node's number; or the verdict.
+// A part of the tree that passed: the next place and the next node's number.
 #[derive(Clone, Copy)]
-pub enum Walked {
-    Passed { next: usize, number: usize },
-    Failed(Verified),
+pub struct Passed {
+    pub next: usize,
+    pub number: usize,
 }
 
 // Some formula of the zone has this tag.
@@ -67,6 +67,7 @@ fn has_tag(s: &[u8], zone: Span, tag: u8) -> bool
 {
     let end = zone.end;
     let mut p = zone.start;
+    // From formula to formula: no `for` over the bytes.
     while p < end {
         if s[p] == tag {
             return true;
@@ -82,24 +83,9 @@ fn is_axiom(s: &[u8], zone: Span) -> bool
     ensures { IsAxiom s.now zone result }
 {
     let at = zone.start;
-    if zone.end - at != 6 {
-        return false;
-    }
-    let first = s[at];
-    let second = s[at + 3];
-    if first == 4 {
-        if second != 5 {
-            return false;
-        }
-        return tree::two_at(s, at + 1) == tree::two_at(s, at + 4);
-    }
-    if first == 5 {
-        if second != 4 {
-            return false;
-        }
-        return tree::two_at(s, at + 1) == tree::two_at(s, at + 4);
-    }
-    false
+    zone.end - at == 6
+        && matches!((s[at], s[at + 3]), (4, 5) | (5, 4))
+        && tree::two_at(s, at + 1) == tree::two_at(s, at + 4)
 }
 
 // The zone is 1 alone.
@@ -108,105 +94,88 @@ fn is_one(s: &[u8], zone: Span) -> bool
     ensures { IsOne s.now zone result }
 {
     let at = zone.start;
-    if zone.end - at != 1 {
-        return false;
-    }
-    s[at] == 0
+    zone.end - at == 1 && s[at] == 0
 }
 
 // The premises' count alone.
-fn count_fault(expected: usize, got: usize) -> Fault
+fn count_fault(expected: usize, got: usize) -> Option<Fault>
     ensures { result ≡ fault_of (need_premises expected got no_fault) }
 {
     if got == expected {
-        Fault::None
+        None
     } else {
-        Fault::Count { expected, got }
+        Some(Fault::Count { expected, got })
     }
 }
 
 // A rule's shape and its premises' count, in the rule's order.
-fn ordered_fault(is_shape_first: bool, is_shaped: bool, expected: usize, got: usize) -> Fault
-    ensures { result ≡ fault_of (in_order is_shape_first is_shaped expected got) }
+fn ordered_fault(first: Order, is_shaped: bool, expected: usize, got: usize) -> Option<Fault>
+    ensures { result ≡ fault_of (in_order first is_shaped expected got) }
 {
-    if is_shaped {
-        return count_fault(expected, got);
-    }
-    if is_shape_first {
-        return Fault::Invalid;
-    }
-    if got == expected {
-        Fault::Invalid
-    } else {
-        Fault::Count { expected, got }
+    let shape = (!is_shaped).then_some(Fault::Invalid);
+    let count = count_fault(expected, got);
+    match first {
+        Order::Shape => shape.or(count),
+        Order::Count => count.or(shape),
     }
 }
 
 // verify.rs: `verify_rule_application`, with its order of tests for each rule.
-fn shape_fault(s: &[u8], n: Node) -> Fault
+fn shape_fault(s: &[u8], n: Node) -> Option<Fault>
     requires { Within (length s.now) n.linear }
     ensures { ShapeFault s.now n result }
 {
-    let rule = n.rule;
     let got = n.premises;
     let zone = n.linear;
-    match rule {
-        0 => ordered_fault(SHAPE_FIRST, is_axiom(s, zone), 0, got),
+    match n.rule {
+        0 => ordered_fault(Order::Shape, is_axiom(s, zone), 0, got),
         1 => count_fault(2, got),
-        2 => ordered_fault(SHAPE_FIRST, is_one(s, zone), 0, got),
-        3 => ordered_fault(SHAPE_FIRST, has_tag(s, zone, 1), 1, got),
-        4 => ordered_fault(COUNT_FIRST, has_tag(s, zone, 6), 2, got),
-        5 => ordered_fault(COUNT_FIRST, has_tag(s, zone, 7), 1, got),
-        6 => ordered_fault(SHAPE_FIRST, has_tag(s, zone, 2), 0, got),
-        7 => ordered_fault(COUNT_FIRST, has_tag(s, zone, 8), 2, got),
-        8 => ordered_fault(COUNT_FIRST, has_tag(s, zone, 9), 1, got),
-        9 => ordered_fault(COUNT_FIRST, has_tag(s, zone, 9), 1, got),
-        10 => ordered_fault(COUNT_FIRST, has_tag(s, zone, 11), 1, got),
-        11 => count_fault(1, got),
-        12 => count_fault(1, got),
-        13 => count_fault(1, got),
-        14 => count_fault(1, got),
-        _ => Fault::None,
+        2 => ordered_fault(Order::Shape, is_one(s, zone), 0, got),
+        3 => ordered_fault(Order::Shape, has_tag(s, zone, 1), 1, got),
+        4 => ordered_fault(Order::Count, has_tag(s, zone, 6), 2, got),
+        5 => ordered_fault(Order::Count, has_tag(s, zone, 7), 1, got),
+        6 => ordered_fault(Order::Shape, has_tag(s, zone, 2), 0, got),
+        7 => ordered_fault(Order::Count, has_tag(s, zone, 8), 2, got),
+        8 | 9 => ordered_fault(Order::Count, has_tag(s, zone, 9), 1, got),
+        10 => ordered_fault(Order::Count, has_tag(s, zone, 11), 1, got),
+        11..=14 => count_fault(1, got),
+        _ => None,
     }
 }
 
 // The fault at a node: shape mode's, and in strict mode, where there is none, a mismatch unless the step is legal.
-fn fault_at(s: &[u8], n: Node, is_strict: bool) -> Fault
+fn fault_at(s: &[u8], n: Node, is_strict: bool) -> Option<Fault>
     requires { Short s.now × NodeInside (length s.now) n }
     ensures { Faulted (mode_test is_strict) s.now n result }
 {
     let fault = shape_fault(s, n);
-    let Fault::None = fault else {
+    if fault.is_some() {
         return fault;
-    };
-    if !is_strict {
-        return Fault::None;
     }
-    if !strict::legal(s, n) {
-        return Fault::Mismatch;
+    if is_strict && !strict::legal(s, n) {
+        return Some(Fault::Mismatch);
     }
-    Fault::None
+    None
 }
 
-// The verdict that tells a fault.
-fn verdict(fault: Fault, rule: u8, node: usize, wrappers: usize) -> Verified
+// A fault, told of its node.
+fn told(fault: Fault, rule: u8, node: usize, wrappers: usize) -> Rejected
     ensures { result ≡ told fault rule node wrappers }
 {
     match fault {
-        Fault::None => Verified::Accepted,
-        Fault::Invalid => Verified::Invalid {
+        Fault::Invalid => Rejected::Invalid {
             rule,
             node,
             wrappers,
         },
-        Fault::Count { expected, got } => Verified::WrongCount {
+        Fault::Count { expected, got } => Rejected::WrongCount {
             rule,
             node,
             wrappers,
             expected,
             got,
         },
-        Fault::Mismatch => Verified::Mismatch {
+        Fault::Mismatch => Rejected::Mismatch {
             rule,
             node,
             wrappers,
@@ -223,21 +192,17 @@ fn verify_node(
     levels: usize,
     number: usize,
     wrappers: usize,
-) -> Walked
+) -> Result<Passed, Rejected>
     requires { (at ≤ length s.now) × (number ≤ at) × (wrappers + levels ≤ 65) × Short s.now }
     ensures { Walk (mode_test is_strict) s.now at levels number wrappers result }
 {
-    if levels == 0 {
-        return Walked::Passed { next: at, number };
-    }
-    if at == s.len() {
-        return Walked::Passed { next: at, number };
+    if levels == 0 || at == s.len() {
+        return Ok(Passed { next: at, number });
     }
     let n = tree::node_at(s, at);
-    let fault = fault_at(s, n, is_strict);
-    let Fault::None = fault else {
-        return Walked::Failed(verdict(fault, n.rule, number, wrappers));
-    };
+    if let Some(fault) = fault_at(s, n, is_strict) {
+        return Err(told(fault, n.rule, number, wrappers));
+    }
     verify_premises(
         s,
         n.next,
@@ -258,52 +223,39 @@ fn verify_premises(
     levels: usize,
     number: usize,
     wrappers: usize,
-) -> Walked
+) -> Result<Passed, Rejected>
     requires { (at ≤ length s.now) × (number ≤ at) × (wrappers + levels ≤ 65) × Short s.now }
     ensures { PremisesWalk (mode_test is_strict) s.now at count levels number wrappers result }
 {
-    let mut left = count;
-    let mut p = at;
-    let mut m = number;
-    while left > 0 {
-        match verify_node(s, p, is_strict, levels, m, wrappers) {
-            Walked::Failed(v) => {
-                return Walked::Failed(v);
-            }
-            Walked::Passed { next, number: k } => {
-                left -= 1;
-                p = next;
-                m = k;
-            }
-        }
+    let mut passed = Passed { next: at, number };
+    for _ in 0..count {
+        passed = verify_node(s, passed.next, is_strict, levels, passed.number, wrappers)?;
     }
-    Walked::Passed { next: p, number: m }
+    Ok(passed)
 }
 
 // The tree is read, and then walked from its root.
-fn verify_in(s: &[u8], is_strict: bool) -> Verified
+fn verify_in(s: &[u8], is_strict: bool) -> Result<(), Rejected>
     ensures { result ≡ checked (mode_test is_strict) (read_tree s.now) }
 {
     match tree::read_tree(s) {
-        Subtree::Refused(why) => Verified::Refused(why),
-        Subtree::Whole { next: _, depth: _ } => {
-            match verify_node(s, 3, is_strict, HIGHEST_TREE, 0, 0) {
-                Walked::Passed { next: _, number: _ } => Verified::Accepted,
-                Walked::Failed(v) => v,
-            }
+        Subtree::Refused(why) => Err(Rejected::Refused(why)),
+        Subtree::Whole { .. } => {
+            verify_node(s, 3, is_strict, HIGHEST_TREE, 0, 0)?;
+            Ok(())
         }
     }
 }
 
 // Shape mode: verify.rs's own tests.
-pub fn verify(s: &[u8]) -> Verified
+pub fn verify(s: &[u8]) -> Result<(), Rejected>
     ensures { result ≡ checked shape_at (read_tree s.now) }
 {
     verify_in(s, false)
 }
 
 // Strict mode: every step is legal too.
-pub fn verify_strict(s: &[u8]) -> Verified
+pub fn verify_strict(s: &[u8]) -> Result<(), Rejected>
     ensures { result ≡ checked strict_fault (read_tree s.now) }
 {
     verify_in(s, true)

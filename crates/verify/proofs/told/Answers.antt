@@ -1,9 +1,5 @@
 use Rattle.verify.specs.Verdicts.{told}
-use Rattle.verify.proofs.verdict.Goals as goal
-
-pub returns-in-None : goal.returns-in-None
-unfolding told
-returns-in-None c = rw c.in-None.is
+use Rattle.verify.proofs.told.Goals as goal
 
 pub returns-in-Invalid : goal.returns-in-Invalid
 unfolding told
