@@ -28,8 +28,7 @@ use Rattle.tree.specs.ReadingLaws.{tree_refused}
 use Rattle.bags.specs.Runs.{Short}
 use Rattle.strict.specs.Steps.{LegalStep}
 use Rattle.tree.specs.declared.Node.{Node}
-use Rattle.tree.specs.declared.Subtree as code_subtree
-use Rattle.tree.specs.declared.Subtree.TheVariants as subtree
+use Rattle.tree.specs.declared.Subtree.{Subtree}
 use Rattle.verify.specs.Verdicts.{fault_of, rejected_of, verdict_of, told, walk_of, checked}
 use Rattle.verify.specs.Shapes.{ShapeFault}
 use Rattle.verify.specs.Walks.{WalkWithin, mode_test, Faulted, Walk, PremisesWalk}
@@ -234,7 +233,7 @@ record WasRead (s : List ℕ) : Type 0 where
   back : TreeBack s tree rest
   long : length s ≡ 3 + length (write_node tree)
 
-module _ (s : List ℕ) (bytes : Bytes s) {x : code_subtree.Subtree} {next deep : ℕ} (e₁ : x ≡ tree_read (length s) (read_tree s)) (e₂ : x ≡ subtree.Whole next deep) where
+module _ (s : List ℕ) (bytes : Bytes s) {x : Result Subtree Refusal} {u : Subtree} (e₁ : x ≡ tree_read (length s) (read_tree s)) (e₂ : x ≡ Ok u) where
   was_read : WasRead s
   unfolding tree_read write_tree message
   was_read = go (read_tree s) refl e₁
@@ -262,11 +261,11 @@ record Through (test : Rule → Sequent → Trees → Option logic.Fault) (s : L
   walked_is : w ≡ walk_of verdict end all
 
 module _ (test : Rule → Sequent → Trees → Option logic.Fault) (s : List ℕ) where
-  pub checked_refused : {x : code_subtree.Subtree} {why : Refusal} → x ≡ tree_read (length s) (read_tree s) → x ≡ subtree.Refused why → Err (rejected.Refused why) ≡ checked test (read_tree s)
+  pub checked_refused : {x : Result Subtree Refusal} {why : Refusal} → x ≡ tree_read (length s) (read_tree s) → x ≡ Err why → Err (rejected.Refused why) ≡ checked test (read_tree s)
   unfolding checked
   checked_refused e₁ e₂ = let by = tree_refused (length s) (read_tree s) e₁ e₂ in rw by.is (ap (λ (k : Refusal). Err (rejected.Refused k)) by.code)
 
-  module _ (bytes : Bytes s) {x : code_subtree.Subtree} {next deep : ℕ} (e₁ : x ≡ tree_read (length s) (read_tree s)) (e₂ : x ≡ subtree.Whole next deep) {w : Result Passed Rejected} (walk : Walk test s 3 highest_tree 0 0 w) where
+  module _ (bytes : Bytes s) {x : Result Subtree Refusal} {u : Subtree} (e₁ : x ≡ tree_read (length s) (read_tree s)) (e₂ : x ≡ Ok u) {w : Result Passed Rejected} (walk : Walk test s 3 highest_tree 0 0 w) where
     -- the tree that was read stands behind the three bytes
     through : Through test s w
     unfolding checked write_tree message

@@ -11,19 +11,20 @@ ghost use Rattle.strict.specs.Zones.{NodeInside};
 ghost use Rattle.verify.specs.Shapes.{in_order, HasTag, IsAxiom, IsOne, ShapeFault};
 ghost use Rattle.verify.specs.Verdicts.{no_fault, fault_of, told, checked};
 ghost use Rattle.verify.specs.Walks.{mode_test, Faulted, Walk, PremisesWalk};
+ghost use Rattle.verify.specs.declared.Rejected.TheVariants.{Refused};
 
 use formula::Refusal;
-use tree::{HIGHEST_TREE, Node, Span, Subtree};
+use tree::{HIGHEST_TREE, Node, Span};
 
 // Which test of a rule comes first: its shape or its premises' count.
-#[derive(Clone, Copy)]
+#[derive(Clone, Copy, Debug, PartialEq, Eq)]
 pub enum Order {
     Shape,
     Count,
 }
 
 // What is wrong at a node.
-#[derive(Clone, Copy)]
+#[derive(Clone, Copy, Debug, PartialEq, Eq)]
 pub enum Fault {
     Invalid,
     Count { expected: usize, got: usize },
@@ -31,7 +32,7 @@ pub enum Fault {
 }
 
 // Why `verify` does not accept. A rule is its number; nodes are numbered in preorder, the root 0; wrappers are the steps below the root.
-#[derive(Clone, Copy)]
+#[derive(Clone, Copy, Debug, PartialEq, Eq)]
 pub enum Rejected {
     Refused(Refusal),
     Invalid {
@@ -53,8 +54,16 @@ pub enum Rejected {
     },
 }
 
+impl From<Refusal> for Rejected {
+    ghost from_gives = { λ why r. r ≡ Refused why };
+
+    fn from(why: Refusal) -> Rejected {
+        Rejected::Refused(why)
+    }
+}
+
 // A part of the tree that passed: the next place and the next node's number.
-#[derive(Clone, Copy)]
+#[derive(Clone, Copy, Debug, PartialEq, Eq)]
 pub struct Passed {
     pub next: usize,
     pub number: usize,
@@ -238,13 +247,9 @@ fn verify_premises(
 fn verify_in(s: &[u8], is_strict: bool) -> Result<(), Rejected>
     ensures { result ≡ checked (mode_test is_strict) (read_tree s.now) }
 {
-    match tree::read_tree(s) {
-        Subtree::Refused(why) => Err(Rejected::Refused(why)),
-        Subtree::Whole { .. } => {
-            verify_node(s, 3, is_strict, HIGHEST_TREE, 0, 0)?;
-            Ok(())
-        }
-    }
+    tree::read_tree(s)?;
+    verify_node(s, 3, is_strict, HIGHEST_TREE, 0, 0)?;
+    Ok(())
 }
 
 // Shape mode: verify.rs's own tests.
