@@ -10,19 +10,13 @@ ghost use Rattle.tree.specs.Answers.{counted, zone_read, own_read, tree_read, tr
 ghost use Rattle.tree.specs.Places.{Passed, ZoneFound, ArgumentPassed, NodeFound, TreePassed};
 
 use formula::Refusal;
+use rule::Rule;
 
 pub const HIGHEST_FORMULA: usize = 64;
 
 pub const HIGHEST_TREE: usize = 65;
 
 pub const MOST_FORMULAS: usize = 31;
-
-// The rules with an argument, a formula or a number (15 and 16), and the last rule.
-pub const CUT: u8 = 1;
-
-pub const FOCUS_POSITIVE: u8 = 15;
-
-pub const BLUR: u8 = 17;
 
 // A tree read: the place after its last node and its depth.
 #[derive(Clone, Copy, Debug, PartialEq, Eq)]
@@ -96,16 +90,18 @@ fn read_rule(s: &[u8], at: usize) -> Result<usize, Refusal>
     ensures { result ≡ reads (length s.now) (read_rule (drop at s.now)) }
 {
     let next = at + 1;
-    match s[at] {
-        CUT => formula::read_formula(s, next, s.len(), HIGHEST_FORMULA),
-        FOCUS_POSITIVE..BLUR => {
+    let Ok(rule) = Rule::try_from(s[at]) else {
+        return Err(Refusal::WrongNumber);
+    };
+    match rule {
+        Rule::Cut => formula::read_formula(s, next, s.len(), HIGHEST_FORMULA),
+        Rule::FocusPositive | Rule::FocusNegative => {
             if s.len() - next < 2 {
                 return Err(Refusal::WrongLength);
             }
             Ok(next + 2)
         }
-        ..=BLUR => Ok(next),
-        _ => Err(Refusal::WrongNumber),
+        _ => Ok(next),
     }
 }
 
@@ -253,14 +249,17 @@ fn after_argument(s: &[u8], at: usize, rule: u8) -> usize
     requires { at ≤ length s.now }
     ensures { ArgumentPassed s.now at rule result }
 {
-    match rule {
-        CUT => {
+    let Ok(known) = Rule::try_from(rule) else {
+        return at;
+    };
+    match known {
+        Rule::Cut => {
             if at == s.len() {
                 return at;
             }
             next_formula(s, at, s.len())
         }
-        FOCUS_POSITIVE..BLUR => after(s, at, 2),
+        Rule::FocusPositive | Rule::FocusNegative => after(s, at, 2),
         _ => at,
     }
 }
