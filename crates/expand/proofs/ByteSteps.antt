@@ -258,6 +258,27 @@ module _ {m items : List ℕ} {n : ℕ} (g : Items m items n) where
         → Wrote out to (write_formulas (named m items n)) out' next
     written_end {k} h l w = let e : k ≡ n = omega arith in wrote_as w (ap (λ (i : ℕ). write_formulas (named m items i)) e)
 
+-- the first n items as a list of their own
+part_same : (items : List ℕ) (n : ℕ) → n ≤ length items → take (length (take n items)) (take n items) ≡ take n items
+part_same items n h = rw (length-take-le n items h) (take-take n n items (omega arith))
+
+pub part_items : {m items : List ℕ} {n : ℕ} → Items m items n → Items m (take n items) (length (take n items))
+part_items {m} {items} {n} g = record { wf = g.wf; sized = omega arith; few = omega (arith, length-take-le n items g.sized, g.few); below = rw (part_same items n g.sized) g.below }
+
+pub part_room : {m items : List ℕ} {n : ℕ} {out : List ℕ} {to : ℕ} → ZoneRoom m items n out to → ZoneRoom m (take n items) (length (take n items)) out to
+part_room {m} {items} {n} z = let e = part_same items n z.good.sized in record { good = part_items z.good; room = rw e z.room; short = rw e z.short }
+
+module _ {m items : List ℕ} {n : ℕ} (g : Items m items n) where
+  pub part_weighs : {r : ℕ} → Weighs m (take n items) (length (take n items)) r → Weighs m items n r
+  part_weighs w = record {
+    bytes = w.bytes ∙ ap (λ (l : List ℕ). length (write_formulas (map (told m) l))) (part_same items n g.sized);
+    small = omega (arith, length-take-le n items g.sized, w.small);
+  }
+
+  pub part_wrote : {out out' : List ℕ} {to next : ℕ} → Wrote out to (write_zone (named m (take n items) (length (take n items)))) out' next
+      → Wrote out to (write_zone (named m items n)) out' next
+  part_wrote w = wrote_as w (ap (λ (l : List ℕ). write_zone (map (told m) l)) (part_same items n g.sized))
+
 -- a zone: its length, and its formulas
 module _ {m items : List ℕ} {n : ℕ} {out : List ℕ} {to : ℕ} (z : ZoneRoom m items n out to) where
   pub length_room : {r : ℕ} → Weighs m items n r → (r < 65536) × (to + 2 ≤ length out)

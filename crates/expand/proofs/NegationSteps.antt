@@ -1,4 +1,5 @@
 -- The table of negations: what a look-up answers, and the negation of a formula from those of its parts. Assumes nothing.
+use Rattle.std.specs.Prelude.{None, Option, Some}
 use mathlib.Core.Path.{◌≡◌, refl, sym, ap, ◌∙◌}
 use mathlib.Core.Logic.{⊎_elim}
 use mathlib.Core.List.{List}
@@ -29,8 +30,6 @@ use Rattle.held.specs.Words.{at, count, most, view, told, Row, two, one, Wf}
 use Rattle.held.specs.OrderLaws.{le_or_lt}
 use Rattle.held.specs.WordsLaws.{weights, number_once}
 use Rattle.held.specs.Answers.{Field, Next, NumberOf}
-use Rattle.held.specs.declared.Found.{Found}
-use Rattle.held.specs.declared.Found.TheVariants as found
 use Rattle.held.proofs.RowSteps.{row_tall, row_wide, row_tall_one, row_wide_one}
 use Rattle.held.proofs.TurnSteps.{leaf_row}
 use Rattle.expand.specs.Negations.{Noted, Table, Above, Negated}
@@ -46,15 +45,15 @@ noted_at {m} {f} {i} wf h = record {
 noted_none : {m : List ℕ} {f : Formula} → ((i : ℕ) → i < count m → told m i ≡ f → ⊥) → Noted m f 0
 noted_none h = record { sound = λ y e. absurd (omega arith); complete = λ y l e. absurd (h y l e) }
 
-pub number_some : (m : List ℕ) (f : Formula) (r : Found) (i : ℕ) → Wf m → NumberOf m f r → r ≡ found.At i → Noted m f (i + 1)
+pub number_some : (m : List ℕ) (f : Formula) (r : Option ℕ) (i : ℕ) → Wf m → NumberOf m f r → r ≡ Some i → Noted m f (i + 1)
 number_some m f r i wf x e = noted_at wf (rw e at x)
 
-pub number_fits : (m : List ℕ) (f : Formula) (r : Found) (i : ℕ) → Wf m → NumberOf m f r → r ≡ found.At i → i < most
+pub number_fits : (m : List ℕ) (f : Formula) (r : Option ℕ) (i : ℕ) → Wf m → NumberOf m f r → r ≡ Some i → i < most
 number_fits m f r i wf x e = let h : (i < count m) × (told m i ≡ f) = rw e at x in omega (arith, h.0, wf.few)
 
-pub number_none : (m : List ℕ) (f : Formula) (r : Found) → NumberOf m f r → r ≡ found.Nothing → Noted m f 0
-number_none m f (found.At i) x e = cc
-number_none m f found.Nothing x e = noted_none x
+pub number_none : (m : List ℕ) (f : Formula) (r : Option ℕ) → NumberOf m f r → r ≡ None → Noted m f 0
+number_none m f (Some i) x e = cc
+number_none m f None x e = noted_none x
 
 noted_as : {m : List ℕ} {f g : Formula} {r : ℕ} → f ≡ g → Noted m f r → Noted m g r
 noted_as e n = rw e at n
@@ -283,13 +282,10 @@ module _ {m : List ℕ} {x top : ℕ} (k : Above m x top) where
   above_other f n = record { low = k.low; above = below_more (λ y. at m y 0 ≡ 10 → at m y 1 < top) x k.above (λ e. absurd (n (f.value ∙ e))) }
 
   module _ {a : ℕ} (f : Field m x 1 a) where
-    pub above_within : a < top → Above m (x + 1) top
-    above_within h = record { low = k.low; above = below_more (λ y. at m y 0 ≡ 10 → at m y 1 < top) x k.above (λ e. omega (arith, f.value)) }
-
-    pub above_raised : {t : ℕ} → Wf m → x < count m → Field m x 0 t → t ≡ 10 → top ≤ a → Above m (x + 1) (a + 1)
-    above_raised wf l g e h = record {
-      low = omega (arith, f.value, part_left m x wf l (omega (arith, g.value)));
-      above = below_more (λ y. at m y 0 ≡ 10 → at m y 1 < a + 1) x (λ y b d. omega (arith, k.above y b d)) (λ d. omega (arith, f.value));
+    pub above_raised : {t r : ℕ} → Wf m → x < count m → Field m x 0 t → t ≡ 10 → r ≡ max top (a + 1) → Above m (x + 1) r
+    above_raised {t} {r} wf l g e h = record {
+      low = omega (arith, k.low, f.value, part_left m x wf l (omega (arith, g.value)));
+      above = below_more (λ y. at m y 0 ≡ 10 → at m y 1 < r) x (λ y b d. omega (arith, k.above y b d)) (λ d. omega (arith, f.value));
     }
 
 pub above_end : {m : List ℕ} {x r : ℕ} → x ≤ count m → count m ≤ x → Above m x r → Above m (count m) r

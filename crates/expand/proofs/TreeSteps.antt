@@ -1,4 +1,5 @@
 -- A tree's length and its bytes, node by node: a node's own bytes, its premises' words, and how both go on from one to the next. Assumes nothing.
+use Rattle.std.specs.Prelude.{None, Some}
 use mathlib.Core.Path.{◌≡◌, refl, sym, ap, subst, ◌∙◌}
 use mathlib.Core.List.{List, [], ◌∷◌, ◌++◌, append_assoc, append-nil}
 use mathlib.Core.Option.{Option, some}
@@ -23,7 +24,6 @@ use Rattle.expand.specs.Negations.{Negated}
 use Rattle.expand.specs.Writing.{Wrote, Items, ZoneRoom, Weighs, Sound, Means, SpellsOut, premise_counts, first_of, second_of, Stepping, Stepping₂}
 use Rattle.expand.specs.Trees.{most_bytes, most_levels, head, HeadLength, HeadRoom, Carries, OfTree, Counted, Writing, Written, Long, MessageRoom, Message, Answered}
 use Rattle.expand.specs.declared.nodes.Place.{Place}
-use Rattle.expand.specs.declared.nodes.Output.TheVariants.{Bytes, TooLong}
 use Rattle.expand.proofs.ByteSteps.{wrote_one, wrote_then, wrote_as, wrote_length}
 use Rattle.expand.proofs.PremiseSteps.{fifteen, step_known, step_sized}
 
@@ -61,10 +61,10 @@ premises_few =
 
 module _ {m : List ℕ} {z : Zones} (s : Sound m z) where
   pub linear_items : Items m z.linear z.linear_len
-  linear_items = record { wf = s.wf; sized = s.fits.linear_sized; few = omega (arith, s.fits.few); below = s.within.linear }
+  linear_items = record { wf = s.wf; sized = omega (arith, s.fits.few, s.fits.linear_sized); few = omega (arith, s.fits.few); below = s.within.linear }
 
   pub unrestricted_items : Items m z.unrestricted z.unrestricted_len
-  unrestricted_items = record { wf = s.wf; sized = s.fits.unrestricted_sized; few = omega (arith, s.fits.few); below = s.within.unrestricted }
+  unrestricted_items = record { wf = s.wf; sized = omega (arith, s.fits.few, s.fits.unrestricted_sized); few = omega (arith, s.fits.few); below = s.within.unrestricted }
 
   pub head_weighs : {a b : ℕ} → Weighs m z.linear z.linear_len a → Weighs m z.unrestricted z.unrestricted_len b → HeadLength m z (6 + a + b)
   head_weighs {a} {b} x y = record {
@@ -634,12 +634,12 @@ module _ {m table ws : List ℕ} {z : Zones} {out : List ℕ} {n : ℕ} (p : Mes
 
 -- whether the message fits
 module _ {m ws : List ℕ} {z : Zones} {out : List ℕ} {n : ℕ} (x : OfTree m ws z most_levels 0 (Long n)) where
-  pub body_over : most_bytes < n → OfTree m ws z most_levels 0 (Answered out out TooLong)
+  pub body_over : most_bytes < n → OfTree m ws z most_levels 0 (Answered out out None)
   body_over h = record {
     of_tree = λ t rest e. record { same = refl; long = λ l room. let o = (x.of_tree t rest e).over h in omega arith };
   }
 
-  pub room_short : n ≤ most_bytes → length out < n + 3 → OfTree m ws z most_levels 0 (Answered out out TooLong)
+  pub room_short : n ≤ most_bytes → length out < n + 3 → OfTree m ws z most_levels 0 (Answered out out None)
   room_short h k = record {
     of_tree = λ t rest e. record { same = refl; long = λ l room. let o = (x.of_tree t rest e).exact h in omega (arith, message_length t) };
   }
@@ -648,7 +648,7 @@ module _ {m ws : List ℕ} {z : Zones} {out : List ℕ} {n : ℕ} (x : OfTree m 
     pub message_room : MessageRoom m table ws z out n
     message_room = record { table_is = t; carries = k; sized = (x.of_tree k.tree k.rest k.expands).exact h; short = h; room = room }
 
-    pub message_fits : {out' : List ℕ} {r : ℕ} → OfTree m ws z most_levels 0 (Message out out' r) → OfTree m ws z most_levels 0 (Answered out out' (Bytes r))
+    pub message_fits : {out' : List ℕ} {r : ℕ} → OfTree m ws z most_levels 0 (Message out out' r) → OfTree m ws z most_levels 0 (Answered out out' (Some r))
     message_fits {out'} {r} y = record {
       of_tree = λ t rest e.
           let d = y.of_tree t rest e in

@@ -1,5 +1,5 @@
 -- What the functions on whole trees ask and answer: words that stand for a tree, its length, its bytes. Assumes nothing: these are definitions.
-use Rattle.std.specs.Prelude.{◌≡◌, List, [], ◌∷◌, ◌++◌, ℕ, ◌+◌, ◌≤◌, ◌<◌, get_or, length, drop}
+use Rattle.std.specs.Prelude.{◌≡◌, List, [], ◌∷◌, ◌++◌, ℕ, ◌+◌, ◌≤◌, ◌<◌, get_or, length, drop, None, Option, Some}
 use Rattle.std.proofs.Math.Option.{some}
 use Rattle.logic.specs.Sequent.{Sequent}
 use Rattle.logic.specs.Tree.{Tree}
@@ -12,8 +12,6 @@ use Rattle.expand.specs.InMemory.{InMemory}
 use Rattle.expand.specs.Negations.{Negated}
 use Rattle.expand.specs.Writing.{Wrote, Sound, premise_counts}
 use Rattle.expand.specs.declared.nodes.Place.{Place}
-use Rattle.expand.specs.declared.nodes.Output.{Output}
-use Rattle.expand.specs.declared.nodes.Output.TheVariants.{Bytes, TooLong}
 
 -- the most bytes that a tree's body may have, and the most levels that a tree has
 abbrev pub most_bytes : ℕ
@@ -95,6 +93,6 @@ pub record Unfit (out out' : List ℕ) (t : Tree) : Type 0 where
   pub same : out' ≡ out
   pub long : length (write_node t) ≤ most_bytes → length (write_tree t) ≤ length out → ⊥
 
-abbrev pub Answered : (out out' : List ℕ) (r : Output) (t : Tree) (rest : List ℕ) → Type 0
-Answered out out' (Bytes n) t rest = Fitting out out' n t
-Answered out out' TooLong t rest = Unfit out out' t
+abbrev pub Answered : (out out' : List ℕ) (r : Option ℕ) (t : Tree) (rest : List ℕ) → Type 0
+Answered out out' (Some n) t rest = Fitting out out' n t
+Answered out out' None t rest = Unfit out out' t

@@ -29,7 +29,7 @@ pub record FormulaRoom (m : List ℕ) (x : ℕ) (out : List ℕ) (to : ℕ) : Ty
 -- the first n items name held formulas
 pub record Items (m items : List ℕ) (n : ℕ) : Type 0 where
   pub wf : Wf m
-  pub sized : length items ≡ 31
+  pub sized : n ≤ length items
   pub few : n ≤ 31
   pub below : Below (words.count m) (take n items)
 

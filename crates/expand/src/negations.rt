@@ -7,7 +7,6 @@ ghost use Rattle.held.specs.Words.{count, most, view, told, Wf};
 ghost use Rattle.held.specs.Answers.{Next};
 ghost use Rattle.expand.specs.Negations.{Noted, Table, Above, Negated};
 
-use held::Found;
 use held::entry::find;
 use held::words::field;
 
@@ -26,8 +25,8 @@ pub fn number_of(mem: &[u16], tag: usize, a: usize, b: usize) -> usize
     ensures { Noted mem.now (node tag a b (view mem.now)) result }
 {
     match find(mem, tag, a, b) {
-        Found::At(i) => i + 1,
-        Found::Nothing => 0,
+        Some(i) => i + 1,
+        None => 0,
     }
 }
 
@@ -71,11 +70,7 @@ fn above(mem: &[u16], x: usize, top: usize) -> usize
     if field(mem, x, 0) != 10 {
         return top;
     }
-    let a = field(mem, x, 1);
-    if a < top {
-        return top;
-    }
-    a + 1
+    top.max(field(mem, x, 1) + 1)
 }
 
 // Above the left part of each held implication: no more of the table is asked for.
@@ -83,12 +78,9 @@ fn top(mem: &[u16]) -> usize
     requires { Wf mem.now }
     ensures { Above mem.now (count mem.now) result }
 {
-    let n = mem[0] as usize;
     let mut r = 0;
-    let mut x = 0;
-    while x < n {
+    for x in 0..mem[0] as usize {
         r = above(mem, x, r);
-        x += 1;
     }
     r
 }
@@ -98,11 +90,7 @@ pub fn negations(mem: &[u16], table: &mut [u16])
     requires { Wf mem.now × (length table.old ≡ most) }
     ensures { Negated mem.now table.new }
 {
-    let n = top(mem);
-    let mut x = 0;
-    while x < n {
-        let r = negation(mem, table, x);
-        table[x] = r as u16;
-        x += 1;
+    for x in 0..top(mem) {
+        table[x] = negation(mem, table, x) as u16;
     }
 }

@@ -30,11 +30,8 @@ pub fn head_length(mem: &[u16], z: Zones) -> usize
     requires { Sound mem.now z }
     ensures { HeadLength mem.now z result }
 {
-    let linear = z.linear;
-    let unrestricted = z.unrestricted;
-    let first = items_length(mem, linear, z.linear_len);
-    let second = items_length(mem, unrestricted, z.unrestricted_len);
-    HEAD + first + second
+    HEAD + items_length(mem, &z.linear[..z.linear_len])
+        + items_length(mem, &z.unrestricted[..z.unrestricted_len])
 }
 
 // Its bytes: the rule, the zones, how many premises there are.
@@ -42,11 +39,9 @@ pub fn head_bytes(mem: &[u16], z: Zones, w: u64, out: &mut [u8], to: usize) -> u
     requires { HeadRoom mem.now z w out.old to }
     ensures { Wrote out.old to (head w (meant (told mem.now) z)) out.new result }
 {
-    let linear = z.linear;
-    let unrestricted = z.unrestricted;
     out[to] = (w % 32) as u8;
-    let second = zone_bytes(mem, linear, z.linear_len, out, to + 1);
-    let last = zone_bytes(mem, unrestricted, z.unrestricted_len, out, second);
+    let second = zone_bytes(mem, &z.linear[..z.linear_len], out, to + 1);
+    let last = zone_bytes(mem, &z.unrestricted[..z.unrestricted_len], out, second);
     out[last] = premises(w) as u8;
     last + 1
 }
@@ -130,8 +125,7 @@ pub fn tree_length(mem: &[u16], negations: &[u16], words: &[u64], z: Zones) -> u
     requires { Negated mem.now negations.now × Carries mem.now words.now z most_levels 0 }
     ensures { OfTree mem.now words.now z most_levels 0 (Long result) }
 {
-    let end = node_length(mem, negations, words, z, LEVELS, 0, 0);
-    end.to
+    node_length(mem, negations, words, z, LEVELS, 0, 0).to
 }
 
 // Writes the whole message, whose body takes n bytes: the version, the length, the root.
@@ -148,31 +142,19 @@ pub fn tree_bytes(
 {
     out[0] = 1;
     let body = two_bytes(out, 1, n);
-    let end = node_bytes(mem, negations, words, z, LEVELS, 0, out, body);
-    end.to
+    node_bytes(mem, negations, words, z, LEVELS, 0, out, body).to
 }
 
-// What became of a found tree: so many bytes of the output, or none where it does not fit.
-#[derive(Clone, Copy)]
-pub enum Output {
-    Bytes(usize),
-    TooLong,
-}
-
-// The tree's bytes, where the output has room and the body is short enough (answer 10).
-pub fn write_tree(mem: &[u16], words: &[u64], z: Zones, out: &mut [u8]) -> Output
+// The tree's bytes, so many of the output; or none, where the output has no room for them or the body is too long (answer 10).
+pub fn write_tree(mem: &[u16], words: &[u64], z: Zones, out: &mut [u8]) -> Option<usize>
     requires { Carries mem.now words.now z most_levels 0 }
     ensures { OfTree mem.now words.now z most_levels 0 (Answered out.old out.new result) }
 {
     let mut table = [0u16; 2048];
     negations(mem, &mut table);
     let n = tree_length(mem, &table, words, z);
-    if BODY < n {
-        return Output::TooLong;
+    if BODY < n || out.len() < n + 3 {
+        return None;
     }
-    if out.len() < n + 3 {
-        return Output::TooLong;
-    }
-    let end = tree_bytes(mem, &table, words, z, out, n);
-    Output::Bytes(end)
+    Some(tree_bytes(mem, &table, words, z, out, n))
 }

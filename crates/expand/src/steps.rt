@@ -28,13 +28,10 @@ pub fn first_decomposable(mem: &[u16], z: Zones) -> usize
     ensures { FirstAt mem.now z result }
 {
     let n = z.linear_len;
-    let mut i = 0;
-    while i < n {
-        let x = z.linear[i] as usize;
-        if decomposes(field(mem, x, 0)) {
+    for i in 0..n {
+        if decomposes(field(mem, z.linear[i] as usize, 0)) {
             return i;
         }
-        i += 1;
     }
     n
 }

@@ -38,41 +38,35 @@ pub fn formula_bytes(mem: &[u16], x: usize, out: &mut [u8], to: usize) -> usize
     next
 }
 
-// How many bytes the first n items take.
-pub fn items_length(mem: &[u16], items: [u16; 31], n: usize) -> usize
-    requires { Items mem.now items n }
-    ensures { Weighs mem.now items n result }
+// How many bytes the items take.
+pub fn items_length(mem: &[u16], items: &[u16]) -> usize
+    requires { Items mem.now items.now (length items.now) }
+    ensures { Weighs mem.now items.now (length items.now) result }
 {
     let mut sum = 0;
-    let mut k = 0;
-    while k < n {
-        let x = items[k] as usize;
-        sum += field(mem, x, 4);
-        k += 1;
+    for &x in items {
+        sum += field(mem, x as usize, 4);
     }
     sum
 }
 
-// The first n items.
-fn items_bytes(mem: &[u16], items: [u16; 31], n: usize, out: &mut [u8], to: usize) -> usize
-    requires { ItemsRoom mem.now items n out.old to }
-    ensures { Wrote out.old to (write_formulas (named mem.now items n)) out.new result }
+// The items.
+fn items_bytes(mem: &[u16], items: &[u16], out: &mut [u8], to: usize) -> usize
+    requires { ItemsRoom mem.now items.now (length items.now) out.old to }
+    ensures { Wrote out.old to (write_formulas (named mem.now items.now (length items.now))) out.new result }
 {
     let mut next = to;
-    let mut k = 0;
-    while k < n {
-        let x = items[k] as usize;
-        next = formula_bytes(mem, x, out, next);
-        k += 1;
+    for &x in items {
+        next = formula_bytes(mem, x as usize, out, next);
     }
     next
 }
 
 // A zone: its length, then its formulas.
-pub fn zone_bytes(mem: &[u16], items: [u16; 31], n: usize, out: &mut [u8], to: usize) -> usize
-    requires { ZoneRoom mem.now items n out.old to }
-    ensures { Wrote out.old to (write_zone (named mem.now items n)) out.new result }
+pub fn zone_bytes(mem: &[u16], items: &[u16], out: &mut [u8], to: usize) -> usize
+    requires { ZoneRoom mem.now items.now (length items.now) out.old to }
+    ensures { Wrote out.old to (write_zone (named mem.now items.now (length items.now))) out.new result }
 {
-    let next = two_bytes(out, to, items_length(mem, items, n));
-    items_bytes(mem, items, n, out, next)
+    let next = two_bytes(out, to, items_length(mem, items));
+    items_bytes(mem, items, out, next)
 }

@@ -8,11 +8,11 @@ bounds-out-0 c = omega (arith, c.requires.room)
 pub two_bytes-body-requires : goal.two_bytes-body-requires
 two_bytes-body-requires c = message_start c.requires
 
-pub node_bytes-end-requires : goal.node_bytes-end-requires
-node_bytes-end-requires c = message_writing c.requires c.two_bytes-body.ensures
+pub node_bytes-requires : goal.node_bytes-requires
+node_bytes-requires c = message_writing c.requires c.two_bytes-body.ensures
 
 pub shape_of-out : goal.shape_of-out
-shape_of-out c = message_same_length c.requires c.two_bytes-body.ensures c.node_bytes-end.ensures
+shape_of-out c = message_same_length c.requires c.two_bytes-body.ensures c.node_bytes.ensures
 
 pub returns : goal.returns
-returns c = message_wrote c.requires c.two_bytes-body.ensures c.node_bytes-end.ensures
+returns c = message_wrote c.requires c.two_bytes-body.ensures c.node_bytes.ensures

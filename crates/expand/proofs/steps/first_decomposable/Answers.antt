@@ -4,7 +4,7 @@ use Rattle.expand.proofs.SpellSteps.{linear_fits, first_here, first_next, first_
 use Rattle.expand.proofs.steps.first_decomposable.Goals as goal
 
 pub loop-i-init : goal.loop-i-init
-loop-i-init c = (omega arith, λ k l. absurd (omega arith))
+loop-i-init c = λ k l. absurd (omega arith)
 
 pub offset_bounds-z-i : goal.offset_bounds-z-i
 offset_bounds-z-i c = omega (arith, c.requires.fits.few)
@@ -12,26 +12,17 @@ offset_bounds-z-i c = omega (arith, c.requires.fits.few)
 pub bounds-z-i : goal.bounds-z-i
 bounds-z-i c = omega (arith, c.requires.fits.few)
 
-pub overflow_cast-x : goal.overflow_cast-x
-overflow_cast-x c = omega (arith, linear_fits c.requires c.loop-i.i c.loop-i-test.true)
-
 pub field-requires : goal.field-requires
 field-requires c = ((linear_fits c.requires c.loop-i.i c.loop-i-test.true, omega arith), c.requires.wf.sized)
 
 pub decomposes-requires : goal.decomposes-requires
-decomposes-requires c = tag_decomposes c.requires c.loop-i-test.true c.loop-i.invariant.1 c.field.ensures refl
+decomposes-requires c = tag_decomposes c.requires c.loop-i-test.true c.loop-i.invariant c.field.ensures refl
 
 pub returns-then-decomposes : goal.returns-then-decomposes
-returns-then-decomposes c = first_here c.requires c.loop-i-test.true c.loop-i.invariant.1 c.field.ensures c.decomposes.ensures c.if-decomposes.true
-
-pub overflow_add-i : goal.overflow_add-i
-overflow_add-i c = omega (arith, c.requires.fits.few)
-
-pub loop-i-smaller : goal.loop-i-smaller
-loop-i-smaller c = omega arith
+returns-then-decomposes c = first_here c.requires c.loop-i-test.true c.loop-i.invariant c.field.ensures c.decomposes.ensures c.if-decomposes.true
 
 pub loop-i-preserved : goal.loop-i-preserved
-loop-i-preserved c = (omega arith, first_next c.requires c.loop-i-test.true c.loop-i.invariant.1 c.field.ensures c.decomposes.ensures c.if-decomposes.false)
+loop-i-preserved c = first_next c.requires c.loop-i-test.true c.loop-i.invariant c.field.ensures c.decomposes.ensures c.if-decomposes.false
 
 pub returns : goal.returns
-returns c = first_none c.requires c.loop-i.invariant.0 c.loop-i-test.false c.loop-i.invariant.1
+returns c = first_none c.requires c.loop-i.auto.i-end c.loop-i-test.false c.loop-i.invariant
