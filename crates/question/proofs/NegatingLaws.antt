@@ -2,7 +2,7 @@
 use Rattle.std.proofs.Math.Path.{◌≡◌, refl, ap}
 use Rattle.std.proofs.Common.{sym, ◌∙◌, le-leb, length-append, length-drop, drop_of_length-le, take_at, length-take-le, drop-drop, drop_at}
 use mathlib.Core.List.{List, [], ◌∷◌, ◌++◌, map, map-append, append-nil, append_assoc}
-use Rattle.std.specs.Prelude.{ℕ, ◌+◌, ◌-◌, ◌≤◌, ◌<◌, length, take, drop}
+use Rattle.std.specs.Prelude.{ℕ, ◌+◌, ◌-◌, ◌≤◌, ◌<◌, length, take, drop, Err, Ok, Result}
 use native.Mathlib.Omega.{arith}
 use Rattle.std.proofs.Math.Seq.{slice, sets, length-sets, length-slice}
 use Rattle.std.proofs.lemmas.List.Edits.{sets-eq}
@@ -17,9 +17,6 @@ use Rattle.wire.proofs.ZoneBytes.{length_write_formulas, write_formulas_append, 
 use Rattle.formula.specs.Answers.{reads}
 use Rattle.formula.specs.Calls.{left_in, Writes}
 use Rattle.formula.proofs.RewritingLaws.{sets_append}
-use Rattle.formula.specs.declared.Written.{Written}
-use Rattle.formula.specs.declared.Read as place
-use Rattle.formula.specs.declared.Read.TheVariants as reader
 use Rattle.formula.specs.declared.Refusal.{Refusal}
 use Rattle.question.specs.Answers.{zone_size}
 use Rattle.question.specs.Zone.{Zone}
@@ -105,19 +102,19 @@ module _ (s : List ℕ) (at end : ℕ) (out : List ℕ) (inside : end ≤ length
       read_next =
           rw next.bytes_are (read_write highest_formula next.formula (write_formulas next.others) next.fits.height_fits next.fits.names_fit)
 
-      module _ {x : place.Read} (read : x ≡ reads end (read_formula highest_formula (slice p end s))) where
+      module _ {x : Result ℕ Refusal} (read : x ≡ reads end (read_formula highest_formula (slice p end s))) where
         -- there is a formula at p
-        pub negating_never : {k : Refusal} → x ≡ reader.Refused k → ⊥
+        pub negating_never : {k : Refusal} → x ≡ Err k → ⊥
         unfolding reads
         negating_never e =
-            let told : x ≡ reader.Next (end - zone_size next.others) = read ∙ rw read_next in
+            let told : x ≡ Ok (end - zone_size next.others) = read ∙ rw read_next in
             let z : ◌≡◌ {A = ℕ} 0 1 = cc in omega arith
 
-        module _ {q : ℕ} (there : x ≡ reader.Next q) where
+        module _ {q : ℕ} (there : x ≡ Ok q) where
           after : q ≡ p + size next.formula
           unfolding reads
           after =
-              let told : x ≡ reader.Next (end - zone_size next.others) = read ∙ rw read_next in
+              let told : x ≡ Ok (end - zone_size next.others) = read ∙ rw read_next in
               let place : q ≡ end - zone_size next.others = cc in
               omega (arith, ahead_size, ap zone_size next.split, length_write_formulas next.formula next.others, n.within)
 
@@ -140,7 +137,7 @@ module _ (s : List ℕ) (at end : ℕ) (out : List ℕ) (inside : end ≤ length
               rw (drop_split s p end n.within inside, next.bytes_are, append_assoc)
               (take_at (write_formula next.formula) (write_formulas next.others ++ drop end s) (q - p) (omega (arith, after, length_write next.formula)))
 
-          pub negating_on : {r : Written} {part : List ℕ} → Writes (λ f. write_formula (negate f)) (take (q - p) (drop p s)) (take (q - p) (drop p last)) r part
+          pub negating_on : {r : Result ℕ Refusal} {part : List ℕ} → Writes (λ f. write_formula (negate f)) (take (q - p) (drop p s)) (take (q - p) (drop p last)) r part
               → Negating s at end out q (take p last ++ (part ++ drop (q - p) (drop p last)))
           negating_on w =
               let f = next.formula in

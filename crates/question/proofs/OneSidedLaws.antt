@@ -2,7 +2,7 @@
 -- Assumes nothing.
 use Rattle.std.proofs.Math.Path.{◌≡◌, refl, sym, ap}
 use Rattle.std.proofs.Common.{◌∙◌, arith, length-append}
-use Rattle.std.specs.Prelude.{Bool, List, [], ◌∷◌, ◌++◌, map, ℕ, ◌≤◌, ◌<◌, take}
+use Rattle.std.specs.Prelude.{Bool, List, [], ◌∷◌, ◌++◌, map, ℕ, ◌≤◌, ◌<◌, take, Err, Ok, Result}
 use Rattle.std.proofs.Math.Bool.{true, false}
 use borrow.Author.Tests.{le-leb, lt-leb}
 use Rattle.std.proofs.Math.Dec.{leb}
@@ -19,10 +19,7 @@ use Rattle.wire.proofs.QuestionBytes.{read_write_question, write_read_question}
 use Rattle.formula.specs.Answers.{coded}
 use Rattle.formula.specs.declared.Refusal as refusal
 use Rattle.formula.specs.declared.Refusal.TheVariants.{OutputShort}
-use Rattle.formula.specs.declared.Written.TheVariants as written
 use Rattle.question.specs.declared.Places.{Places}
-use Rattle.question.specs.declared.Question as answer
-use Rattle.question.specs.declared.Question.TheVariants.{Whole, Refused}
 use Rattle.question.specs.Answers.{kind_of, zone_size, answered, turned, turned_bytes, wrote, left_in, OneSided, ReadsBack}
 use Rattle.question.specs.Found.{Found}
 use Rattle.question.specs.FoundLaws.{question_length, body_length, found}
@@ -31,16 +28,16 @@ use Rattle.question.proofs.TurningLaws.{turned_length, turned_zone_size, left_in
 
 -- ---- by the tests of the code
 
-refused_as : {why : refusal.Refusal} (s out : List ℕ) (m : Read Question) → read_question s ≡ m → Refused why ≡ answered m → OneSided s out (written.Refused why) out
+refused_as : {why : refusal.Refusal} (s out : List ℕ) (m : Read Question) → read_question s ≡ m → Err why ≡ answered m → OneSided s out (Err why) out
 unfolding answered wrote left_in
 refused_as s out (got q rest) e h = let z : ◌≡◌ {A = ℕ} 0 1 = cc in absurd (omega arith)
 refused_as {why} s out (refused k) e h = let same : why ≡ coded k = cc in record { answer = rw (e, same); buffer = rw e }
 
-module _ (s : List ℕ) (bytes : Bytes s) (out : List ℕ) {r : answer.Question} (e : r ≡ answered (read_question s)) where
-  pub one_sided_refused : {why : refusal.Refusal} → r ≡ Refused why → OneSided s out (written.Refused why) out
+module _ (s : List ℕ) (bytes : Bytes s) (out : List ℕ) {r : Result Places refusal.Refusal} (e : r ≡ answered (read_question s)) where
+  pub one_sided_refused : {why : refusal.Refusal} → r ≡ Err why → OneSided s out (Err why) out
   one_sided_refused h = refused_as s out (read_question s) refl (sym h ∙ e)
 
-  module _ {p : Places} (h : r ≡ Whole p) where
+  module _ {p : Places} (h : r ≡ Ok p) where
     abbrev q : Question
     q = (found s bytes (sym h ∙ e)).0
 
@@ -50,14 +47,14 @@ module _ (s : List ℕ) (bytes : Bytes s) (out : List ℕ) {r : answer.Question}
     length_is : length (turned_bytes q) ≡ length s
     length_is = turned_length q ∙ ap length there.bytes_are
 
-    pub one_sided_short : length out < length s → OneSided s out (written.Refused OutputShort) out
+    pub one_sided_short : length out < length s → OneSided s out (Err OutputShort) out
     unfolding wrote left_in
     one_sided_short short =
         let no = lt-leb (length (turned_bytes q)) (length out) (omega (arith, length_is)) in
         record { answer = rw (there.read, wrote, no); buffer = rw (there.read, left_in, no) }
 
     module _ (room : length s ≤ length out) where
-      pub one_sided_written : {last : List ℕ} → last ≡ left_in out (read_question s) → OneSided s out (written.Bytes (length s)) last
+      pub one_sided_written : {last : List ℕ} → last ≡ left_in out (read_question s) → OneSided s out (Ok (length s)) last
       unfolding wrote
       one_sided_written w = record { answer = rw (there.read, wrote, le-leb (length (turned_bytes q)) (length out) (omega (arith, length_is)), length_is); buffer = w }
 
@@ -67,7 +64,7 @@ module _ (s : List ℕ) (bytes : Bytes s) (out : List ℕ) {r : answer.Question}
       turned_same (two_sided Γ Δ) k = absurd (omega arith)
 
       -- a one-sided question is copied
-      pub one_sided_copied : p.kind ≡ 1 → {last : List ℕ} → last ≡ take (length s) s ++ drop (length s) out → OneSided s out (written.Bytes (length s)) last
+      pub one_sided_copied : p.kind ≡ 1 → {last : List ℕ} → last ≡ take (length s) s ++ drop (length s) out → OneSided s out (Ok (length s)) last
       one_sided_copied k w =
           let same : turned_bytes q ≡ s = ap write_question (turned_same q (sym k ∙ there.kind_is)) ∙ there.bytes_are in
           one_sided_written (w ∙ rw (take-length s, there.read, left_in_got out q (omega (arith, length_is)), same))
@@ -111,14 +108,14 @@ pub turned_reads : (q : Question) → QuestionFits q → read_question (turned_b
 turned_reads q h = read_write_question (turned q) (turned_fits q h)
 
 module _ (s out : List ℕ) (bytes : Bytes s) where
-  back_got : {n : ℕ} {out' : List ℕ} (m : Read Question) → read_question s ≡ m → written.Bytes n ≡ wrote out m → out' ≡ left_in out m → ReadsBack s out n out'
+  back_got : {n : ℕ} {out' : List ℕ} (m : Read Question) → read_question s ≡ m → Ok n ≡ wrote out m → out' ≡ left_in out m → ReadsBack s out n out'
   unfolding wrote left_in
   back_got {n} {out'} (got q rest) e a b = go (leb (length (turned_bytes q)) (length out)) refl
     where
       go : (t : Bool) → leb (length (turned_bytes q)) (length out) ≡ t → ReadsBack s out n out'
       go true y =
           let there = write_read_question s q rest bytes e in
-          let told : written.Bytes n ≡ written.Bytes (length (turned_bytes q)) = rw (wrote, y) at a in
+          let told : Ok n ≡ Ok (length (turned_bytes q)) = rw (wrote, y) at a in
           let long : length (turned_bytes q) ≡ n = cc in
           let stored : out' ≡ turned_bytes q ++ drop n out = b ∙ rw (left_in, y, long) in
           record {
@@ -128,9 +125,9 @@ module _ (s out : List ℕ) (bytes : Bytes s) where
             back = rw (stored, take_at (turned_bytes q) (drop n out) n long) (turned_reads q there.fits);
             kept = rw (stored, drop_at (turned_bytes q) (drop n out) n long);
           }
-      go false y = let told : written.Bytes n ≡ written.Refused OutputShort = rw (wrote, y) at a in let z : ◌≡◌ {A = ℕ} 0 1 = cc in absurd (omega arith)
+      go false y = let told : Ok n ≡ Err OutputShort = rw (wrote, y) at a in let z : ◌≡◌ {A = ℕ} 0 1 = cc in absurd (omega arith)
   back_got (refused k) e a b = let z : ◌≡◌ {A = ℕ} 0 1 = cc in absurd (omega arith)
 
   -- what is written reads as the question turned one-sided
-  pub reads_back : {n : ℕ} {out' : List ℕ} → OneSided s out (written.Bytes n) out' → ReadsBack s out n out'
+  pub reads_back : {n : ℕ} {out' : List ℕ} → OneSided s out (Ok n) out' → ReadsBack s out n out'
   reads_back o = back_got (read_question s) refl o.answer o.buffer

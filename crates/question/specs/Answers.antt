@@ -1,5 +1,6 @@
 -- What the calls on a question answer: where its zones stand, the code's refusals, and what is written into the output buffer. Assumes nothing.
-use Rattle.std.specs.Prelude.{◌≡◌, true, false, List, [], ◌++◌, ℕ, ◌+◌, leb, length, take, drop}
+use Rattle.formula.specs.declared.Refusal.{Refusal}
+use Rattle.std.specs.Prelude.{◌≡◌, true, false, List, [], ◌++◌, ℕ, ◌+◌, leb, length, take, drop, Err, Ok, Result}
 use Rattle.logic.specs.Formula.{Formula}
 use Rattle.logic.specs.Sequent.{Question, one_sided, two_sided, to_one_sided}
 use Rattle.wire.specs.Write.{write_formulas, write_question}
@@ -7,11 +8,7 @@ use Rattle.wire.specs.Read.{Read, got, refused, read_question}
 use Rattle.wire.specs.Fits.{first_zone, second_zone}
 use Rattle.formula.specs.Answers.{coded}
 use Rattle.formula.specs.declared.Refusal.TheVariants.{OutputShort}
-use Rattle.formula.specs.declared.Written.{Written}
-use Rattle.formula.specs.declared.Written.TheVariants as written
 use Rattle.question.specs.declared.Places.{Places}
-use Rattle.question.specs.declared.Question as answer
-use Rattle.question.specs.declared.Question.TheVariants.{Whole, Refused}
 
 -- document 01's number of a question's kind
 unfoldable pub kind_of : Question → ℕ
@@ -36,9 +33,9 @@ places_of q =
     }
 
 -- the answer of `read_question`
-unfoldable pub answered : Read Question → answer.Question
-answered (got q rest) = Whole (places_of q)
-answered (refused k) = Refused (coded k)
+unfoldable pub answered : Read Question → Result Places Refusal
+answered (got q rest) = Ok (places_of q)
+answered (refused k) = Err (coded k)
 
 -- sequent.rs: `to_one_sided`, as a question
 unfoldable pub turned : Question → Question
@@ -49,16 +46,16 @@ turned_bytes q = write_question (turned q)
 
 -- the answer of `to_one_sided`, and the output buffer after it: changed on 0 only, in the front part written
 module _ (out : List ℕ) where
-  unfoldable pub wrote : Read Question → Written
-  wrote (got q rest) = elim (leb (length (turned_bytes q)) (length out)) [ true ↦ written.Bytes (length (turned_bytes q)) | false ↦ written.Refused OutputShort ]
-  wrote (refused k) = written.Refused (coded k)
+  unfoldable pub wrote : Read Question → Result ℕ Refusal
+  wrote (got q rest) = elim (leb (length (turned_bytes q)) (length out)) [ true ↦ Ok (length (turned_bytes q)) | false ↦ Err OutputShort ]
+  wrote (refused k) = Err (coded k)
 
   unfoldable pub left_in : Read Question → List ℕ
   left_in (got q rest) = elim (leb (length (turned_bytes q)) (length out)) [ true ↦ turned_bytes q ++ drop (length (turned_bytes q)) out | false ↦ out ]
   left_in (refused k) = out
 
 -- the promise of `to_one_sided`: bytes s, output buffer out before and out' after, answer r
-pub record OneSided (s out : List ℕ) (r : Written) (out' : List ℕ) : Type 0 where
+pub record OneSided (s out : List ℕ) (r : Result ℕ Refusal) (out' : List ℕ) : Type 0 where
   pub answer : r ≡ wrote out (read_question s)
   pub buffer : out' ≡ left_in out (read_question s)
 

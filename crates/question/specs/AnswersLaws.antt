@@ -1,5 +1,6 @@
 -- Laws of `read_question`'s answer: from the answers of its steps. Assumes nothing.
-use Rattle.std.specs.Prelude.{◌≡◌, refl, ◌⊎◌, List, ℕ, ◌+◌, ◌≤◌, length}
+use Rattle.question.specs.declared.Places.{Places}
+use Rattle.std.specs.Prelude.{◌≡◌, refl, ◌⊎◌, List, ℕ, ◌+◌, ◌≤◌, length, Err, Ok, Result}
 use Rattle.std.proofs.Math.Path.{sym, ap}
 use Rattle.std.proofs.Common.{◌∙◌}
 use Rattle.std.proofs.Math.Seq.{slice}
@@ -8,12 +9,6 @@ use Rattle.wire.specs.Read.{Read, refused, read_question}
 use Rattle.formula.specs.Answers.{coded, named}
 use Rattle.formula.specs.declared.Refusal as refusal
 use Rattle.formula.specs.declared.Refusal.TheVariants.{WrongNumber, WrongLength, WrongTag, TooHigh, TooMany, HeldFull, BudgetSpent, FailuresFull, OutputShort, WrongSetting, WrongMemory}
-use Rattle.formula.specs.declared.Read as place
-use Rattle.formula.specs.declared.Read.TheVariants as reader
-use Rattle.question.specs.declared.Kind as kind
-use Rattle.question.specs.declared.Kind.TheVariants as kind_is
-use Rattle.question.specs.declared.Question.{Question}
-use Rattle.question.specs.declared.Question.TheVariants.{Refused}
 use Rattle.question.specs.Answers.{answered}
 use Rattle.question.specs.Stages.{make_of, formulas_of, kind_on, KindInside, KindRead, ends_on, EndsInside, EndsRead}
 
@@ -32,34 +27,34 @@ coded_named OutputShort = refl
 coded_named WrongSetting = refl
 coded_named WrongMemory = refl
 
-answered_refused : {m : Read logic.Question} {why : refusal.Refusal} → m ≡ refused (named why) → Refused why ≡ answered m
+answered_refused : {m : Read logic.Question} {why : refusal.Refusal} → m ≡ refused (named why) → Err why ≡ answered m
 unfolding answered
 answered_refused {why = why} e = rw (e, coded_named why)
 
-module _ (s : List ℕ) {r : kind.Kind} (first : KindRead s r) where
-  pub question_unkind : {why : refusal.Refusal} → r ≡ kind_is.Refused why → Refused why ≡ answered (read_question s)
+module _ (s : List ℕ) {r : Result ℕ refusal.Refusal} (first : KindRead s r) where
+  pub question_unkind : {why : refusal.Refusal} → r ≡ Err why → Err why ≡ answered (read_question s)
   unfolding kind_on
   question_unkind e = answered_refused (first.right ∙ ap (kind_on s) e)
 
-  module _ {k : ℕ} (here : r ≡ kind_is.Is k) where
+  module _ {k : ℕ} (here : r ≡ Ok k) where
     pub kind_inside : (4 ≤ length s) × ((k ≡ 1) ⊎ (k ≡ 2))
     unfolding KindInside
     kind_inside = rw here at first.inside
 
-    module _ {x : place.Read} (ends : EndsRead s x) where
+    module _ {x : Result ℕ refusal.Refusal} (ends : EndsRead s x) where
       by_ends : read_question s ≡ ends_on s (make_of k) x
       unfolding kind_on
       by_ends = first.right ∙ ap (kind_on s) here ∙ ends.right (make_of k)
 
-      pub question_unended : {why : refusal.Refusal} → x ≡ reader.Refused why → Refused why ≡ answered (read_question s)
+      pub question_unended : {why : refusal.Refusal} → x ≡ Err why → Err why ≡ answered (read_question s)
       unfolding ends_on
       question_unended e = answered_refused (by_ends ∙ ap (ends_on s (make_of k)) e)
 
-      module _ {middle : ℕ} (there : x ≡ reader.Next middle) where
+      module _ {middle : ℕ} (there : x ≡ Ok middle) where
         pub ends_inside : (6 ≤ middle) × (middle + 2 ≤ length s)
         unfolding EndsInside
         ends_inside = rw there at ends.inside
 
-        pub question_read : {q : Question} → q ≡ answered (formulas_of (make_of k) (slice 6 middle s) (slice (middle + 2) (length s) s)) → q ≡ answered (read_question s)
+        pub question_read : {q : Result Places refusal.Refusal} → q ≡ answered (formulas_of (make_of k) (slice 6 middle s) (slice (middle + 2) (length s) s)) → q ≡ answered (read_question s)
         unfolding ends_on
         question_read e = e ∙ sym (ap answered (by_ends ∙ ap (ends_on s (make_of k)) there))

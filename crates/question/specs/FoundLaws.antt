@@ -1,6 +1,6 @@
 -- Where the parts of a question stand in its bytes: what `read_question` answers says of them. Assumes nothing.
 use Rattle.std.proofs.Math.Path.{◌≡◌, sym, subst}
-use Rattle.std.specs.Prelude.{refl, ℕ, ◌+◌}
+use Rattle.std.specs.Prelude.{refl, ℕ, ◌+◌, Ok}
 use Rattle.std.proofs.Common.{ap, ◌∙◌, arith, length-append, take_at, drop_at}
 use mathlib.Core.List.{List, [], ◌∷◌, ◌++◌, append-nil, append_assoc}
 use Rattle.std.proofs.Math.ListN.{length}
@@ -12,7 +12,6 @@ use Rattle.wire.specs.Fits.{Bytes, first_zone, second_zone}
 use Rattle.wire.proofs.ZoneBytes.{read_write_all}
 use Rattle.wire.proofs.QuestionBytes.{write_read_question}
 use Rattle.question.specs.declared.Places.{Places}
-use Rattle.question.specs.declared.Question.TheVariants.{Whole}
 use Rattle.question.specs.Answers.{kind_of, zone_size, places_of, answered}
 use Rattle.question.specs.Found.{Found}
 
@@ -82,7 +81,7 @@ module _ (s : List ℕ) (bytes : Bytes s) where
         few = back.fits.zones_fit.few_formulas;
       }
 
-  found_got : {p : Places} (m : Read Question) → read_question s ≡ m → Whole p ≡ answered m → (q : Question) × Found s p q
+  found_got : {p : Places} (m : Read Question) → read_question s ≡ m → Ok p ≡ answered m → (q : Question) × Found s p q
   unfolding answered
   found_got {p} (got q rest) e h =
       let none : rest ≡ [] = (write_read_question s q rest bytes e).none_left in
@@ -91,5 +90,5 @@ module _ (s : List ℕ) (bytes : Bytes s) where
   found_got (refused k) e h = let z : ◌≡◌ {A = ℕ} 0 1 = cc in absurd (omega arith)
 
   -- from the answer of `read_question`
-  pub found : {p : Places} → Whole p ≡ answered (read_question s) → (q : Question) × Found s p q
+  pub found : {p : Places} → Ok p ≡ answered (read_question s) → (q : Question) × Found s p q
   found h = found_got (read_question s) refl h

@@ -1,5 +1,5 @@
 -- Laws of reading a question in the code's steps: what each test of the code says of what is read. Assumes nothing.
-use Rattle.std.specs.Prelude.{◌≡◌, List, [], ◌∷◌, eqb, take, drop, get_or}
+use Rattle.std.specs.Prelude.{◌≡◌, List, [], ◌∷◌, eqb, take, drop, get_or, Err, Ok, Result}
 use Rattle.std.proofs.Math.Path.{refl}
 use Rattle.std.proofs.Common.{sym, ◌∙◌, drop_at, take-add, length-take-le}
 use Rattle.std.proofs.Math.Logic.{inl, inr}
@@ -13,11 +13,8 @@ use Rattle.logic.specs.Sequent.{Question}
 use Rattle.logic.specs.Answer.{Refusal, wrong_number, wrong_length}
 use Rattle.wire.specs.Read.{Read, got, refused, ◌then◌, unless, entry, read_byte, read_two, read_bytes, zone_bytes, at_end, read_message, kinds, read_question}
 use Rattle.tree.specs.ReadingLaws.{two_read}
-use Rattle.formula.specs.declared.Read as place
-use Rattle.formula.specs.declared.Read.TheVariants as reader
 use Rattle.formula.specs.declared.Refusal as refusal
 use Rattle.formula.specs.declared.Refusal.TheVariants.{WrongNumber, WrongLength}
-use Rattle.question.specs.declared.Kind.TheVariants.{Is, Refused}
 use Rattle.question.specs.Stages.{make_of, formulas_of, zones_of, kind_on, KindInside, KindRead, framed, FrameInside, ZoneEnd, ends_on, EndsInside, EndsRead}
 
 -- the number of two bytes at a place
@@ -60,21 +57,21 @@ module _ (s : List ℕ) where
 
 module _ (s : List ℕ) where
   -- document 01's order up to the body, by the tests of the code
-  pub kind_short : length s < 3 → KindRead s (Refused WrongLength)
+  pub kind_short : length s < 3 → KindRead s (Err WrongLength)
   unfolding read_question ◌then◌ kind_on KindInside
   kind_short h = record { right = rw (message_short s h); inside = tt }
 
-  pub kind_version : 3 ≤ length s → (get_or s 0 0 ≡ 1 → ⊥) → KindRead s (Refused WrongNumber)
+  pub kind_version : 3 ≤ length s → (get_or s 0 0 ≡ 1 → ⊥) → KindRead s (Err WrongNumber)
   unfolding read_question ◌then◌ kind_on KindInside
   kind_version long h = record { right = rw (message_version s long h); inside = tt }
 
   module _ (long : 3 ≤ length s) (version : get_or s 0 0 ≡ 1) where
-    pub kind_length : (length s - 3 ≡ two_at s 1 → ⊥) → KindRead s (Refused WrongLength)
+    pub kind_length : (length s - 3 ≡ two_at s 1 → ⊥) → KindRead s (Err WrongLength)
     unfolding read_question ◌then◌ kind_on KindInside
     kind_length h = record { right = rw (message_length s long version h); inside = tt }
 
     module _ (agrees : length s - 3 ≡ two_at s 1) where
-      pub kind_none : length s ≡ 3 → KindRead s (Refused WrongLength)
+      pub kind_none : length s ≡ 3 → KindRead s (Err WrongLength)
       unfolding read_question ◌then◌ kind_on KindInside read_byte
       kind_none h = record { right = rw (message_body s long version agrees, drop_of_length-le s {i = 3} (omega arith)); inside = tt }
 
@@ -83,11 +80,11 @@ module _ (s : List ℕ) where
         unfolding read_question ◌then◌ read_byte zones_of formulas_of
         by_kind = rw (message_body s long version agrees, drop-cons s 3 0 (omega arith))
 
-        pub kind_one : get_or s 3 0 ≡ 1 → KindRead s (Is (get_or s 3 0))
+        pub kind_one : get_or s 3 0 ≡ 1 → KindRead s (Ok (get_or s 3 0))
         unfolding entry ◌then◌ kind_on make_of KindInside
         kind_one h = record { right = by_kind ∙ rw h; inside = (omega arith, inl h) }
 
-        pub kind_two : get_or s 3 0 ≡ 2 → KindRead s (Is (get_or s 3 0))
+        pub kind_two : get_or s 3 0 ≡ 2 → KindRead s (Ok (get_or s 3 0))
         unfolding entry ◌then◌ kind_on make_of KindInside
         kind_two h = record { right = by_kind ∙ rw h; inside = (omega arith, inr h) }
 
@@ -98,7 +95,7 @@ module _ (s : List ℕ) where
         unknown (suc (suc zero)) f e h₁ h₂ = absurd (h₂ refl)
         unknown (suc (suc (suc k))) f e h₁ h₂ = refl
 
-        pub kind_unknown : (get_or s 3 0 ≡ 1 → ⊥) → (get_or s 3 0 ≡ 2 → ⊥) → KindRead s (Refused WrongNumber)
+        pub kind_unknown : (get_or s 3 0 ≡ 1 → ⊥) → (get_or s 3 0 ≡ 2 → ⊥) → KindRead s (Err WrongNumber)
         unfolding ◌then◌ kind_on KindInside
         kind_unknown h₁ h₂ = record { right = by_kind ∙ unknown (get_or s 3 0) _ (λ k. refl) h₁ h₂; inside = tt }
 
@@ -108,7 +105,7 @@ slice_add : (at n : ℕ) (l : List ℕ) → at ≤ length l → take n (drop at 
 slice_add at n l h = sym (rw (take-add at n l, drop_at (take at l) (take n (drop at l)) at (length-take-le at l h)))
 
 module _ (s : List ℕ) (at : ℕ) (inside : at ≤ length s) where
-  pub end_none : length s - at < 2 → ZoneEnd s at (reader.Refused WrongLength)
+  pub end_none : length s - at < 2 → ZoneEnd s at (Err WrongLength)
   unfolding zone_bytes ◌then◌ framed FrameInside
   end_none h = record { right = rw (read_two_none (drop at s) (omega (arith, length-drop at s))); inside = tt }
 
@@ -117,11 +114,11 @@ module _ (s : List ℕ) (at : ℕ) (inside : at ≤ length s) where
     unfolding zone_bytes ◌then◌
     by_length = rw (two_read s at (omega arith))
 
-    pub end_short : length s - (at + 2) < two_at s at → ZoneEnd s at (reader.Refused WrongLength)
+    pub end_short : length s - (at + 2) < two_at s at → ZoneEnd s at (Err WrongLength)
     unfolding read_bytes framed FrameInside
     end_short h = record { right = by_length ∙ rw (length-drop (at + 2) s, lt-leb (two_at s at) (length s - (at + 2)) h); inside = tt }
 
-    pub end_at : two_at s at ≤ length s - (at + 2) → ZoneEnd s at (reader.Next (at + 2 + two_at s at))
+    pub end_at : two_at s at ≤ length s - (at + 2) → ZoneEnd s at (Ok (at + 2 + two_at s at))
     unfolding read_bytes framed FrameInside
     end_at h =
         record {
@@ -132,11 +129,11 @@ module _ (s : List ℕ) (at : ℕ) (inside : at ≤ length s) where
 -- ---- both zones' ends
 
 module _ (s : List ℕ) where
-  pub ends_first : {r : place.Read} {k : refusal.Refusal} → ZoneEnd s 4 r → r ≡ reader.Refused k → EndsRead s r
+  pub ends_first : {r : Result ℕ refusal.Refusal} {k : refusal.Refusal} → ZoneEnd s 4 r → r ≡ Err k → EndsRead s r
   unfolding zones_of ◌then◌ framed ends_on EndsInside
   ends_first z e = record { right = λ make. rw (e, z.right, e); inside = rw e tt }
 
-  module _ {r : place.Read} {middle : ℕ} (first : ZoneEnd s 4 r) (here : r ≡ reader.Next middle) where
+  module _ {r : Result ℕ refusal.Refusal} {middle : ℕ} (first : ZoneEnd s 4 r) (here : r ≡ Ok middle) where
     pub middle_inside : (6 ≤ middle) × (middle ≤ length s)
     unfolding FrameInside
     middle_inside = rw here at first.inside
@@ -145,11 +142,11 @@ module _ (s : List ℕ) where
     unfolding zones_of ◌then◌ framed
     behind_first make = rw (first.right, here)
 
-    pub ends_second : {x : place.Read} {k : refusal.Refusal} → ZoneEnd s middle x → x ≡ reader.Refused k → EndsRead s x
+    pub ends_second : {x : Result ℕ refusal.Refusal} {k : refusal.Refusal} → ZoneEnd s middle x → x ≡ Err k → EndsRead s x
     unfolding ◌then◌ framed ends_on EndsInside
     ends_second z e = record { right = λ make. behind_first make ∙ rw (e, z.right, e); inside = rw e tt }
 
-    module _ {x : place.Read} {end : ℕ} (second : ZoneEnd s middle x) (there : x ≡ reader.Next end) where
+    module _ {x : Result ℕ refusal.Refusal} {end : ℕ} (second : ZoneEnd s middle x) (there : x ≡ Ok end) where
       end_inside : (middle + 2 ≤ end) × (end ≤ length s)
       unfolding FrameInside
       end_inside = rw there at second.inside
@@ -158,11 +155,11 @@ module _ (s : List ℕ) where
       unfolding ◌then◌ framed
       behind_second make = behind_first make ∙ rw (second.right, there)
 
-      pub ends_left_over : end < length s → EndsRead s (reader.Refused WrongLength)
+      pub ends_left_over : end < length s → EndsRead s (Err WrongLength)
       unfolding ◌then◌ at_end ends_on EndsInside
       ends_left_over h = record { right = λ make. behind_second make ∙ rw (drop-cons s end 0 h); inside = tt }
 
-      pub ends_all : length s ≤ end → EndsRead s (reader.Next middle)
+      pub ends_all : length s ≤ end → EndsRead s (Ok middle)
       unfolding ◌then◌ at_end ends_on EndsInside
       ends_all h =
           let whole : end ≡ length s = omega (arith, end_inside) in

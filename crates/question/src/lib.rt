@@ -13,8 +13,8 @@ ghost use Rattle.question.specs.Stages.{make_of, formulas_of, KindRead, ZoneEnd,
 ghost use Rattle.question.specs.Negating.{negated, Negatable};
 ghost use Rattle.question.specs.Turning.{head_of, TwoSided};
 
-use formula::{HIGHEST, Read, Refusal, Written};
-use tree::{Formulas, read_formulas, two_at};
+use formula::{HIGHEST, Refusal};
+use tree::{read_formulas, two_at};
 
 pub const VERSION: u8 = 1;
 
@@ -28,7 +28,7 @@ pub const MOST_FORMULAS: usize = 31;
 pub const FIRST: usize = 6;
 
 // Where a question's zones stand: the bytes of each zone's formulas, from one place up to another, and how many formulas these are.
-#[derive(Clone, Copy)]
+#[derive(Clone, Copy, Debug, PartialEq, Eq)]
 pub struct Places {
     pub kind: u8,
     pub first: usize,
@@ -39,127 +39,84 @@ pub struct Places {
     pub second_count: usize,
 }
 
-// What `read_question` answers.
-#[derive(Clone, Copy)]
-pub enum Question {
-    Whole(Places),
-    Refused(Refusal),
-}
-
-// A question's kind, or why its bytes are refused up to there.
-#[derive(Clone, Copy)]
-enum Kind {
-    Is(u8),
-    Refused(Refusal),
-}
-
 // Up to the kind: fewer than three bytes 3, version 2, length 3; no kind 3, an unknown one 2.
-fn read_kind(s: &[u8]) -> Kind
+fn read_kind(s: &[u8]) -> Result<u8, Refusal>
     ensures { KindRead s.now result }
 {
     if s.len() < 3 {
-        return Kind::Refused(Refusal::WrongLength);
+        return Err(Refusal::WrongLength);
     }
     if s[0] != VERSION {
-        return Kind::Refused(Refusal::WrongNumber);
+        return Err(Refusal::WrongNumber);
     }
-    if s.len() - 3 != two_at(s, 1) {
-        return Kind::Refused(Refusal::WrongLength);
-    }
-    if s.len() == 3 {
-        return Kind::Refused(Refusal::WrongLength);
+    if s.len() - 3 != two_at(s, 1) || s.len() == 3 {
+        return Err(Refusal::WrongLength);
     }
     let kind = s[3];
-    if kind == ONE_SIDED {
-        return Kind::Is(kind);
+    if kind != ONE_SIDED && kind != TWO_SIDED {
+        return Err(Refusal::WrongNumber);
     }
-    if kind == TWO_SIDED {
-        return Kind::Is(kind);
-    }
-    Kind::Refused(Refusal::WrongNumber)
+    Ok(kind)
 }
 
 // Where the zone at a place ends: its length, and that many bytes.
-fn zone_end(s: &[u8], at: usize) -> Read
+fn zone_end(s: &[u8], at: usize) -> Result<usize, Refusal>
     requires { at ≤ length s.now }
     ensures { ZoneEnd s.now at result }
 {
     if s.len() - at < 2 {
-        return Read::Refused(Refusal::WrongLength);
+        return Err(Refusal::WrongLength);
     }
     let from = at + 2;
     let size = two_at(s, at);
     if s.len() - from < size {
-        return Read::Refused(Refusal::WrongLength);
+        return Err(Refusal::WrongLength);
     }
-    Read::Next(from + size)
+    Ok(from + size)
 }
 
 // Both zones' lengths, and bytes left over 3: where the first zone ends. The second ends with the bytes.
-fn read_ends(s: &[u8]) -> Read
+fn read_ends(s: &[u8]) -> Result<usize, Refusal>
     requires { 4 ≤ length s.now }
     ensures { EndsRead s.now result }
 {
-    let first = zone_end(s, 4);
-    let Read::Next(middle) = first else {
-        return first;
-    };
-    let second = zone_end(s, middle);
-    let Read::Next(end) = second else {
-        return second;
-    };
+    let middle = zone_end(s, 4)?;
+    let end = zone_end(s, middle)?;
     if end < s.len() {
-        return Read::Refused(Refusal::WrongLength);
+        return Err(Refusal::WrongLength);
     }
-    first
+    Ok(middle)
 }
 
 // The formulas of both zones in byte order, then 6.
-fn read_zones(s: &[u8], kind: u8, middle: usize) -> Question
+fn read_zones(s: &[u8], kind: u8, middle: usize) -> Result<Places, Refusal>
     requires { ((kind ≡ 1) ⊎ (kind ≡ 2)) × ((6 ≤ middle) × (middle + 2 ≤ length s.now)) }
     ensures { result ≡ answered (formulas_of (make_of kind) (slice 6 middle s.now) (slice (middle + 2) (length s.now) s.now)) }
 {
     let second = middle + 2;
-    match read_formulas(s, FIRST, middle) {
-        Formulas::Refused(why) => Question::Refused(why),
-        Formulas::Count(first_count) => match read_formulas(s, second, s.len()) {
-            Formulas::Refused(why) => Question::Refused(why),
-            Formulas::Count(second_count) => {
-                if MOST_FORMULAS < first_count + second_count {
-                    return Question::Refused(Refusal::TooMany);
-                }
-                Question::Whole(Places {
-                    kind,
-                    first: FIRST,
-                    first_end: middle,
-                    second,
-                    second_end: s.len(),
-                    first_count,
-                    second_count,
-                })
-            }
-        },
+    let first_count = read_formulas(s, FIRST, middle)?;
+    let second_count = read_formulas(s, second, s.len())?;
+    if MOST_FORMULAS < first_count + second_count {
+        return Err(Refusal::TooMany);
     }
+    Ok(Places {
+        kind,
+        first: FIRST,
+        first_end: middle,
+        second,
+        second_end: s.len(),
+        first_count,
+        second_count,
+    })
 }
 
 // Reads a question of either kind: where its zones stand.
-pub fn read_question(s: &[u8]) -> Question
+pub fn read_question(s: &[u8]) -> Result<Places, Refusal>
     ensures { result ≡ answered (read_question s.now) }
 {
-    match read_kind(s) {
-        Kind::Refused(why) => Question::Refused(why),
-        Kind::Is(kind) => match read_ends(s) {
-            Read::Refused(why) => Question::Refused(why),
-            Read::Next(middle) => read_zones(s, kind, middle),
-        },
-    }
-}
-
-fn narrow(n: usize) -> u8
-    requires { n < 256 }
-    ensures { result ≡ n }
-{
-    n as u8
+    let kind = read_kind(s)?;
+    let middle = read_ends(s)?;
+    read_zones(s, kind, middle)
 }
 
 // A number of two bytes, at a place.
@@ -167,8 +124,8 @@ fn put_two(out: &mut [u8], at: usize, n: usize)
     requires { (at + 1 < length out.old) × (n < 65536) }
     ensures { out.new ≡ sets out.old at (two_bytes n) }
 {
-    out[at] = narrow(n / 256);
-    out[at + 1] = narrow(n % 256);
+    out[at] = (n / 256) as u8;
+    out[at + 1] = (n % 256) as u8;
 }
 
 // The front of a one-sided question of n bytes whose last zone is empty: version, length, kind, and the first zone's length.
@@ -189,10 +146,10 @@ fn negate_formulas(s: &[u8], at: usize, end: usize, out: &mut [u8])
 {
     let mut p = at;
     while p < end {
-        let Read::Next(next) = formula::read_formula(s, p, end, HIGHEST) else {
+        let Ok(next) = formula::read_formula(s, p, end, HIGHEST) else {
             return;
         };
-        formula::negate(&s[p..next], &mut out[p..next]);
+        let _ = formula::negate(&s[p..next], &mut out[p..next]);
         p = next;
     }
 }
@@ -219,22 +176,18 @@ fn turn(s: &[u8], middle: usize, out: &mut [u8])
 }
 
 // sequent.rs: `to_one_sided`, of a question in bytes.
-pub fn to_one_sided(s: &[u8], out: &mut [u8]) -> Written
+pub fn to_one_sided(s: &[u8], out: &mut [u8]) -> Result<usize, Refusal>
     ensures { OneSided s.now out.old result out.new }
 {
-    match read_question(s) {
-        Question::Refused(why) => Written::Refused(why),
-        Question::Whole(places) => {
-            if out.len() < s.len() {
-                return Written::Refused(Refusal::OutputShort);
-            }
-            if places.kind == ONE_SIDED {
-                let n = s.len();
-                out[..n].copy_from_slice(s);
-                return Written::Bytes(n);
-            }
-            turn(s, places.first_end, out);
-            Written::Bytes(s.len())
-        }
+    let places = read_question(s)?;
+    let n = s.len();
+    if out.len() < n {
+        return Err(Refusal::OutputShort);
     }
+    if places.kind == ONE_SIDED {
+        out[..n].copy_from_slice(s);
+    } else {
+        turn(s, places.first_end, out);
+    }
+    Ok(n)
 }
