@@ -53,6 +53,15 @@ below_18 FocusPositive = omega arith
 below_18 FocusNegative = omega arith
 below_18 Blur = omega arith
 
-pub focus_number : (r : Rule) → (r ≡ FocusPositive) ⊎ (r ≡ FocusNegative) → (number_of r ≡ 15) ⊎ (number_of r ≡ 16)
-focus_number r (inl e) = inl (ap number_of e)
-focus_number r (inr e) = inr (ap number_of e)
+-- a rule that is one of several has one of their numbers
+pub one_of_two : {r a b : Rule} → (r ≡ a) ⊎ (r ≡ b) → (number_of r ≡ number_of a) ⊎ (number_of r ≡ number_of b)
+one_of_two (inl e) = inl (ap number_of e)
+one_of_two (inr e) = inr (ap number_of e)
+
+pub one_of_three : {r a b c : Rule} → (r ≡ a) ⊎ ((r ≡ b) ⊎ (r ≡ c)) → (number_of r ≡ number_of a) ⊎ ((number_of r ≡ number_of b) ⊎ (number_of r ≡ number_of c))
+one_of_three (inl e) = inl (ap number_of e)
+one_of_three (inr e) = inr (one_of_two e)
+
+pub one_of_four : {r a b c d : Rule} → (r ≡ a) ⊎ ((r ≡ b) ⊎ ((r ≡ c) ⊎ (r ≡ d))) → (number_of r ≡ number_of a) ⊎ ((number_of r ≡ number_of b) ⊎ ((number_of r ≡ number_of c) ⊎ (number_of r ≡ number_of d)))
+one_of_four (inl e) = inl (ap number_of e)
+one_of_four (inr e) = inr (one_of_three e)

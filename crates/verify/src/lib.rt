@@ -14,6 +14,7 @@ ghost use Rattle.verify.specs.Walks.{mode_test, Faulted, Walk, PremisesWalk};
 ghost use Rattle.verify.specs.declared.Rejected.TheVariants.{Refused};
 
 use formula::Refusal;
+use rule::Rule;
 use tree::{HIGHEST_TREE, Node, Span};
 
 // Which test of a rule comes first: its shape or its premises' count.
@@ -136,19 +137,29 @@ fn shape_fault(s: &[u8], n: Node) -> Option<Fault>
 {
     let got = n.premises;
     let zone = n.linear;
-    match n.rule {
-        0 => ordered_fault(Order::Shape, is_axiom(s, zone), 0, got),
-        1 => count_fault(2, got),
-        2 => ordered_fault(Order::Shape, is_one(s, zone), 0, got),
-        3 => ordered_fault(Order::Shape, has_tag(s, zone, 1), 1, got),
-        4 => ordered_fault(Order::Count, has_tag(s, zone, 6), 2, got),
-        5 => ordered_fault(Order::Count, has_tag(s, zone, 7), 1, got),
-        6 => ordered_fault(Order::Shape, has_tag(s, zone, 2), 0, got),
-        7 => ordered_fault(Order::Count, has_tag(s, zone, 8), 2, got),
-        8 | 9 => ordered_fault(Order::Count, has_tag(s, zone, 9), 1, got),
-        10 => ordered_fault(Order::Count, has_tag(s, zone, 11), 1, got),
-        11..=14 => count_fault(1, got),
-        _ => None,
+    let Ok(rule) = Rule::try_from(n.rule) else {
+        return None;
+    };
+    match rule {
+        Rule::Axiom => ordered_fault(Order::Shape, is_axiom(s, zone), 0, got),
+        Rule::Cut => count_fault(2, got),
+        Rule::OneIntro => ordered_fault(Order::Shape, is_one(s, zone), 0, got),
+        Rule::BottomIntro => ordered_fault(Order::Shape, has_tag(s, zone, 1), 1, got),
+        Rule::TensorIntro => ordered_fault(Order::Count, has_tag(s, zone, 6), 2, got),
+        Rule::ParIntro => ordered_fault(Order::Count, has_tag(s, zone, 7), 1, got),
+        Rule::TopIntro => ordered_fault(Order::Shape, has_tag(s, zone, 2), 0, got),
+        Rule::WithIntro => ordered_fault(Order::Count, has_tag(s, zone, 8), 2, got),
+        Rule::PlusIntroLeft | Rule::PlusIntroRight => ordered_fault(
+            Order::Count,
+            has_tag(s, zone, 9),
+            1,
+            got,
+        ),
+        Rule::OfCourseIntro => ordered_fault(Order::Count, has_tag(s, zone, 11), 1, got),
+        Rule::WhyNotIntro | Rule::Weakening | Rule::Contraction | Rule::Dereliction => {
+            count_fault(1, got)
+        }
+        Rule::FocusPositive | Rule::FocusNegative | Rule::Blur => None,
     }
 }
 

@@ -3,7 +3,7 @@ use mathlib.Core.Path.{sym, ap, ◌∙◌}
 use Rattle.std.proofs.Common.{◌≡◌}
 use native.Mathlib.Omega.{arith}
 use Rattle.rule.specs.Numbers.{number_of}
-use Rattle.rule.specs.NumbersLaws.{one_rule, below_18, focus_number}
+use Rattle.rule.specs.NumbersLaws.{one_rule, below_18, one_of_two}
 use Rattle.rule.specs.declared.Rule.TheVariants.{Cut, FocusPositive, FocusNegative}
 use Rattle.tree.specs.PlacesLaws.{argument_none, argument_lacking, argument_formula, argument_two}
 use Rattle.tree.proofs.after_argument.Goals as goal
@@ -18,7 +18,7 @@ pub returns-else-at-s : goal.returns-else-at-s
 returns-else-at-s c = argument_formula c.args.s.now c.args.at c.args.rule c.requires (sym c.in-Ok.ensures ∙ ap number_of c.in-Cut.is) c.next_formula.ensures
 
 pub returns-in-FocusPositive : goal.returns-in-FocusPositive
-returns-in-FocusPositive c = let k = focus_number _ c.in-FocusPositive.is in argument_two c.args.s.now c.args.at c.args.rule c.requires (omega (arith, c.in-Ok.ensures, k)) (omega (arith, c.in-Ok.ensures, k)) c.after.ensures
+returns-in-FocusPositive c = let k = one_of_two c.in-FocusPositive.is in argument_two c.args.s.now c.args.at c.args.rule c.requires (omega (arith, c.in-Ok.ensures, k)) (omega (arith, c.in-Ok.ensures, k)) c.after.ensures
 
 pub returns-in_default-known : goal.returns-in_default-known
 returns-in_default-known c =

@@ -2,7 +2,7 @@ use mathlib.Core.Path.{sym, ap, ◌∙◌}
 use Rattle.std.proofs.Common.{◌≡◌, get_or}
 use native.Mathlib.Omega.{arith}
 use Rattle.rule.specs.Numbers.{number_of}
-use Rattle.rule.specs.NumbersLaws.{one_rule, below_18, focus_number}
+use Rattle.rule.specs.NumbersLaws.{one_rule, below_18, one_of_two}
 use Rattle.rule.specs.declared.Rule.TheVariants.{Cut, FocusPositive, FocusNegative}
 use Rattle.tree.specs.ReadingLaws.{rule_unknown, rule_cut, rule_bare, rule_two_short, rule_two}
 use Rattle.tree.proofs.read_rule.Goals as goal
@@ -14,10 +14,10 @@ pub returns-in-Cut : goal.returns-in-Cut
 returns-in-Cut c = rule_cut c.args.s.now c.args.at c.requires (sym c.in-Ok.ensures ∙ ap number_of c.in-Cut.is) c.read_formula.ensures
 
 pub returns-then-s-next-lt2 : goal.returns-then-s-next-lt2
-returns-then-s-next-lt2 c = let k = focus_number _ c.in-FocusPositive.is in rule_two_short c.args.s.now c.args.at c.requires (omega (arith, c.in-Ok.ensures, k)) (omega (arith, c.in-Ok.ensures, k)) (λ e. omega (arith, c.in-Ok.ensures, k, e)) c.if-s-next-lt2.true
+returns-then-s-next-lt2 c = let k = one_of_two c.in-FocusPositive.is in rule_two_short c.args.s.now c.args.at c.requires (omega (arith, c.in-Ok.ensures, k)) (omega (arith, c.in-Ok.ensures, k)) (λ e. omega (arith, c.in-Ok.ensures, k, e)) c.if-s-next-lt2.true
 
 pub returns-else-s-next-lt2 : goal.returns-else-s-next-lt2
-returns-else-s-next-lt2 c = let k = focus_number _ c.in-FocusPositive.is in rule_two c.args.s.now c.args.at c.requires (omega (arith, c.in-Ok.ensures, k)) (omega (arith, c.in-Ok.ensures, k)) (λ e. omega (arith, c.in-Ok.ensures, k, e)) c.if-s-next-lt2.false
+returns-else-s-next-lt2 c = let k = one_of_two c.in-FocusPositive.is in rule_two c.args.s.now c.args.at c.requires (omega (arith, c.in-Ok.ensures, k)) (omega (arith, c.in-Ok.ensures, k)) (λ e. omega (arith, c.in-Ok.ensures, k, e)) c.if-s-next-lt2.false
 
 pub returns-in_default-rule : goal.returns-in_default-rule
 returns-in_default-rule c =
