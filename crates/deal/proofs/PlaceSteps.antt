@@ -1,50 +1,54 @@
--- The loop of `places` step by step: the items copied without one of them, and the answer for them.
-use mathlib.Core.Path.{◌≡◌, refl, sym, ap, subst, ◌∙◌}
-use mathlib.Core.List.{List, [], ◌∷◌, ◌++◌}
-use Prim.Native.Nat.{ℕ, ◌+◌, ◌-◌, ◌≤◌, ◌<◌}
-use native.Mathlib.Numerals.{add-one}
+-- The items copied without one of them, and the answer for them.
+use Rattle.std.specs.Prelude.{Option}
+use mathlib.Core.Path.{◌≡◌, ap, subst, ◌∙◌}
+use mathlib.Core.List.{List, ◌++◌}
+use Prim.Native.Nat.{ℕ, suc, ◌+◌, ◌-◌}
 use native.Mathlib.Omega.{arith}
-use lib.ListN.{get_or, set, length, take, length-set}
-use lib.Seq.{take-suc, take-suc-set, take_all}
-use Rattle.zones.specs.Zones.{remove, past}
-use Rattle.zones.specs.ZonesLaws.{remove_at, remove_length}
+use borrow.Rule.Slice.PartMut.{put_mid}
+use lib.ListN.{length, take, drop}
+use lib.Seq.{take_all}
+use Rattle.std.proofs.Common.{length-append, length-take-le, length-drop}
+use Rattle.std.proofs.lemmas.Slice.{take-put_mid}
+use Rattle.zones.specs.Zones.{remove}
 use Rattle.deal.specs.Deal.{Answers}
-use Rattle.deal.specs.declared.Dealt.{Dealt}
 use Rattle.deal.specs.Place.{Removable, Without}
 
-pub record Copied (zone : List ℕ) (i k : ℕ) (items : List ℕ) : Type 0 where
-  pub high : k < length zone
-  pub long : length items ≡ 31
-  pub first : take k items ≡ take k (remove i zone)
-
+-- the items before place i are copied, and then those behind it
 module _ {zone : List ℕ} {i : ℕ} (p : Removable zone i) where
-  pub copied_start : (items : List ℕ) → length items ≡ 31 → Copied zone i 0 items
-  copied_start items e = record { high = omega (arith, p.inside); long = e; first = refl }
+  behind : {second : List ℕ} → second ≡ take (length zone - (i + 1)) (drop (i + 1) zone) → second ≡ drop (suc i) zone
+  behind e =
+      let one : i + 1 ≡ suc i = omega arith in
+      e ∙ take_all (length zone - (i + 1)) (drop (i + 1) zone) (omega (arith, length-drop (i + 1) zone)) ∙ ap (λ (n : ℕ). drop n zone) one
 
-  module _ {items : List ℕ} {k : ℕ} (c : Copied zone i k items) where
-    pub copied_step : {s : ℕ} → s ≡ past i k → k < length zone - 1 → Copied zone i (k + 1) (set items k (get_or zone (k + s) 0))
-    copied_step e h = rw e record {
-      high = omega arith;
-      long = length-set items k _ ∙ c.long;
-      first =
-          rw add-one
-          (take-suc-set items k _ (omega (arith, c.long, p.few))
-          ∙ ap (λ (t : List ℕ). t ++ (get_or zone (k + past i k) 0 ∷ [])) c.first
-          ∙ ap (λ (x : ℕ). take k (remove i zone) ++ (x ∷ [])) (sym (remove_at zone i k p.inside))
-          ∙ sym (take-suc (remove i zone) k 0 (omega (arith, remove_length zone i p.inside))));
-    }
-
-    pub copied_end : length zone - 1 ≤ k → Without zone i items
-    copied_end h =
-        let e : k ≡ length zone - 1 = omega (arith, c.high) in
+  module _ (items : List ℕ) {first second : List ℕ} (long : length items ≡ 31) (first_is : first ≡ take i zone)
+      (second_is : second ≡ take (length zone - (i + 1)) (drop (i + 1) zone)) where
+    pub copied : Without zone i (put_mid i (length zone - 1 - i) (put_mid 0 i items first) second)
+    copied =
+        let begun : List ℕ = put_mid 0 i items first in
+        let first_long : length first ≡ i = ap length first_is ∙ length-take-le i zone (omega (arith, p.inside)) in
+        let second_long : length second + i + 1 ≡ length zone = omega (arith, ap length (behind second_is), length-drop (suc i) zone, p.inside) in
+        let begun_first : take i begun ≡ first = take-put_mid 0 i items first i (omega (arith, first_long)) (omega arith) in
+        let begun_long : length begun ≡ 31 = omega (arith, length-append first (drop i items), length-drop i items, first_long, long, p.inside, p.few) in
         record {
-          long = c.long;
-          first = rw e at c.first ∙ take_all (length zone - 1) (remove i zone) (omega (arith, remove_length zone i p.inside));
+          long =
+              omega (
+                arith,
+                length-append (take i begun) (second ++ drop (length zone - 1 - i) (drop i begun)),
+                length-append second (drop (length zone - 1 - i) (drop i begun)),
+                length-take-le i begun (omega (arith, begun_long, p.inside, p.few)),
+                length-drop (length zone - 1 - i) (drop i begun),
+                length-drop i begun,
+                begun_long,
+                second_long,
+                p.few,
+              );
+          first =
+              take-put_mid i (length zone - 1 - i) begun second (length zone - 1) (omega (arith, second_long)) (omega (arith, begun_long, p.inside, p.few))
+              ∙ ap (λ (xs : List ℕ). xs ++ second) (begun_first ∙ first_is)
+              ∙ ap (λ (xs : List ℕ). take i zone ++ xs) (behind second_is);
         }
 
--- the answer for the items that were copied, as the part from 0 on
-pub at_answer : (zone l r : List ℕ) (i : ℕ) (items : List ℕ) → Without zone i items → (d : Dealt) → Answers (take (length zone - 1 - 0) items) l r d
+-- the answer for the items that were copied
+pub at_answer : (zone l r : List ℕ) (i : ℕ) (items : List ℕ) → Without zone i items → (d : Option ℕ) → Answers (take (length zone - 1) items) l r d
     → Answers (remove i zone) l r d
-at_answer zone l r i items w d a =
-    let whole : length zone - 1 - 0 ≡ length zone - 1 = omega arith in
-    subst (λ (xs : List ℕ). Answers xs l r d) (ap (λ (n : ℕ). take n items) whole ∙ w.first) a
+at_answer zone l r i items w d a = subst (λ (xs : List ℕ). Answers xs l r d) w.first a

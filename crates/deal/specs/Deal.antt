@@ -1,8 +1,6 @@
 -- Dealing a list's items out to two lists by a mask, and the least mask that does it: what `deal` promises. Assumes nothing: these are definitions.
-use Rattle.std.specs.Prelude.{◌≡◌, List, ℕ, ◌^◌, ◌≤◌, ◌<◌, length}
+use Rattle.std.specs.Prelude.{◌≡◌, List, ℕ, ◌^◌, ◌≤◌, ◌<◌, length, None, Option, Some}
 use Rattle.zones.specs.Zones.{part}
-use Rattle.deal.specs.declared.Dealt.{Dealt}
-use Rattle.deal.specs.declared.Dealt.TheVariants.{Mask, Nowhere}
 
 -- the mask deals the items out to l and r, each in its order
 pub record Deals {A : Type 0} (xs l r : List A) (mask : ℕ) : Type 0 where
@@ -16,6 +14,6 @@ pub record Least {A : Type 0} (xs l r : List A) (mask : ℕ) : Type 0 where
   pub least : (m : ℕ) → Deals xs l r m → mask ≤ m
 
 -- the least mask, or there is none
-abbrev pub Answers : (xs l r : List ℕ) → Dealt → Type 0
-Answers xs l r (Mask m) = Least xs l r m
-Answers xs l r Nowhere = (m : ℕ) → Deals xs l r m → ⊥
+abbrev pub Answers : (xs l r : List ℕ) → Option ℕ → Type 0
+Answers xs l r (Some m) = Least xs l r m
+Answers xs l r None = (m : ℕ) → Deals xs l r m → ⊥

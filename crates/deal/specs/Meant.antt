@@ -1,9 +1,7 @@
 -- The least split in the search's words: lists of formulas, dealt out as `all_splits` does. Assumes nothing: these are definitions.
-use Rattle.std.specs.Prelude.{◌≡◌, List, ℕ, ◌^◌, ◌≤◌, ◌<◌, length}
+use Rattle.std.specs.Prelude.{◌≡◌, List, ℕ, ◌^◌, ◌≤◌, ◌<◌, length, None, Option, Some}
 use Rattle.logic.specs.Formula.{Formula}
 use Rattle.logic.specs.Split.{left_of, right_of}
-use Rattle.deal.specs.declared.Dealt.{Dealt}
-use Rattle.deal.specs.declared.Dealt.TheVariants.{Mask, Nowhere}
 
 pub record Splits (others l r : List Formula) (mask : ℕ) : Type 0 where
   pub left : left_of mask others ≡ l
@@ -15,6 +13,6 @@ pub record LeastSplit (others l r : List Formula) (mask : ℕ) : Type 0 where
   pub least : (m : ℕ) → Splits others l r m → mask ≤ m
 
 -- what the answer means
-abbrev pub Says : (others l r : List Formula) → Dealt → Type 0
-Says others l r (Mask m) = LeastSplit others l r m
-Says others l r Nowhere = (m : ℕ) → Splits others l r m → ⊥
+abbrev pub Says : (others l r : List Formula) → Option ℕ → Type 0
+Says others l r (Some m) = LeastSplit others l r m
+Says others l r None = (m : ℕ) → Splits others l r m → ⊥

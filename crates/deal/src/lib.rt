@@ -6,46 +6,48 @@ pub mod places; // places.rt: the least mask at a place of a zone
 
 ghost use Rattle.std.specs.Prelude.{◌≤◌, length, drop};
 ghost use Rattle.deal.specs.Deal.{Answers};
-ghost use Rattle.deal.specs.Cells.{Cell, Put, Lesser, Sized, CellAt, CellReady, Before, After};
-
-#[derive(Clone, Copy)]
-pub enum Dealt {
-    Mask(u32),
-    Nowhere,
-}
-
-// Above every mask of at most 31 items: stands for no mask.
-const NONE: u32 = 2147483648;
+ghost use Rattle.deal.specs.Cells.{Cell, Putting, Put, Lesser, Sized, CellAt, CellReady, Before, After};
 
 // The mask where x goes to this side, whose items up to place i are dealt: x has to be the next one, and `rest` is the mask of the items after x.
-fn put(x: u16, side: &[u16], i: usize, rest: u32, bit: u32) -> u32
-    requires { bit ≤ 1 }
+fn put(x: u16, side: &[u16], i: usize, rest: Option<u32>, bit: u32) -> Option<u32>
+    requires { Putting side.now i rest bit }
     ensures { Put x (drop i side.now) rest bit result }
 {
-    if i < side.len() {
-        if side[i] == x {
-            if rest < NONE {
-                return 2 * rest + bit;
-            }
-        }
+    if i >= side.len() {
+        return None;
     }
-    NONE
+    if side[i] != x {
+        return None;
+    }
+    Some(2 * rest? + bit)
 }
 
-fn lesser(a: u32, b: u32) -> u32
+// The lesser of two masks, or the one that there is.
+fn lesser(a: Option<u32>, b: Option<u32>) -> Option<u32>
     ensures { Lesser a b result }
 {
-    if a < b { a } else { b }
+    match (a, b) {
+        (Some(a), Some(b)) => Some(a.min(b)),
+        _ => a.or(b),
+    }
 }
 
 // The least mask of the items that are left when i went to l and j to r, by the two cells after it.
-fn cell(others: &[u16], l: &[u16], r: &[u16], i: usize, j: usize, below: u32, beside: u32) -> u32
+fn cell(
+    others: &[u16],
+    l: &[u16],
+    r: &[u16],
+    i: usize,
+    j: usize,
+    below: Option<u32>,
+    beside: Option<u32>,
+) -> Option<u32>
     requires { CellReady others.now l.now r.now i j below beside }
     ensures { CellAt others.now l.now r.now i j result }
 {
     let k = i + j;
     if k == others.len() {
-        return 0;
+        return Some(0);
     }
     let x = others[k];
     let a = put(x, l, i, below, 0);
@@ -54,49 +56,40 @@ fn cell(others: &[u16], l: &[u16], r: &[u16], i: usize, j: usize, below: u32, be
 }
 
 // The cells at i from those at i + 1, from the last to the first.
-fn fill(others: &[u16], l: &[u16], r: &[u16], i: usize, row: &mut [u32; 32])
+fn fill(others: &[u16], l: &[u16], r: &[u16], i: usize, row: &mut [Option<u32>; 32])
     requires { Before others.now l.now r.now i row.old }
     ensures { After others.now l.now r.now i row.new }
 {
-    let mut v = NONE;
-    let mut j = r.len() + 1;
-    while j > 0 {
-        j -= 1;
+    let mut v = None;
+    for j in (0..r.len() + 1).rev() {
         v = cell(others, l, r, i, j, row[j], v);
         row[j] = v;
     }
 }
 
-// The cell at the start: the least mask, or NONE.
-fn table(others: &[u16], l: &[u16], r: &[u16]) -> u32
+// The cell at the start: the least mask, or that there is none.
+fn table(others: &[u16], l: &[u16], r: &[u16]) -> Option<u32>
     requires { Sized others.now l.now r.now }
     ensures { Cell others.now l.now r.now result }
 {
-    let mut row = [NONE; 32];
-    let mut i = l.len() + 1;
-    while i > 0 {
-        i -= 1;
+    let mut row = [None; 32];
+    for i in (0..l.len() + 1).rev() {
         fill(others, l, r, i, &mut row);
     }
     row[0]
 }
 
 // The least mask, or that there is none.
-pub fn deal(others: &[u16], l: &[u16], r: &[u16]) -> Dealt
+pub fn deal(others: &[u16], l: &[u16], r: &[u16]) -> Option<u32>
     requires { length others.now ≤ 31 }
     ensures { Answers others.now l.now r.now result }
 {
     let n = others.len();
     if l.len() > n {
-        return Dealt::Nowhere;
+        return None;
     }
     if r.len() != n - l.len() {
-        return Dealt::Nowhere;
+        return None;
     }
-    let v = table(others, l, r);
-    if v < NONE {
-        Dealt::Mask(v)
-    } else {
-        Dealt::Nowhere
-    }
+    table(others, l, r)
 }

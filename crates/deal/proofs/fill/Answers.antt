@@ -1,24 +1,11 @@
-use native.Mathlib.Omega.{arith}
 use Rattle.deal.proofs.Steps.{filling_start, filling_ready, filling_step, filling_end}
 use Rattle.deal.proofs.fill.Goals as goal
 
 pub loop-j-init : goal.loop-j-init
 loop-j-init c = filling_start c.requires _
 
-pub offset_bounds-row-j : goal.offset_bounds-row-j
-offset_bounds-row-j c = omega arith
-
-pub bounds-row-j : goal.bounds-row-j
-bounds-row-j c = omega arith
-
 pub cell-v-requires : goal.cell-v-requires
 cell-v-requires c = filling_ready c.requires c.loop-j.invariant c.loop-j-test.true
-
-pub offset_bounds-row-j-in-loop-j : goal.offset_bounds-row-j-in-loop-j
-offset_bounds-row-j-in-loop-j c = omega arith
-
-pub bounds-row-j-in-loop-j : goal.bounds-row-j-in-loop-j
-bounds-row-j-in-loop-j c = omega arith
 
 pub loop-j-preserved : goal.loop-j-preserved
 loop-j-preserved c = filling_step c.requires c.loop-j.invariant c.loop-j-test.true c.cell-v.ensures

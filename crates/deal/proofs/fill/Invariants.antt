@@ -3,6 +3,3 @@ use Rattle.deal.proofs.fill.Given as goal
 
 abbrev pub invariant-loop-j : goal.invariant-loop-j
 invariant-loop-j l = Filling l.others l.l l.r l.i l.initial.row l.row l.v l.j
-
-abbrev pub decreases-loop-j : goal.decreases-loop-j
-decreases-loop-j l = l.j
