@@ -1,5 +1,5 @@
 -- What comparing held formulas with formulas in bytes answers. A contract speaks of any formulas that stand at the places. Assumes nothing: these are definitions.
-use Rattle.std.specs.Prelude.{◌≡◌, Bool, true, false, ◌&&◌, List, [], ◌∷◌, ℕ, zero, suc, ◌+◌, ◌≤◌, ◌<◌, eqb, length, take, drop}
+use Rattle.std.specs.Prelude.{◌≡◌, Bool, true, false, ◌&&◌, List, [], ◌∷◌, ℕ, zero, suc, ◌+◌, ◌≤◌, ◌<◌, eqb, length, drop, map, Option, Some, None}
 use Rattle.logic.specs.Formula.{Formula, same, spell, size}
 use Rattle.logic.specs.Sequent.{Sequent}
 use Rattle.logic.specs.Tree.{Rule, Trees, node}
@@ -12,12 +12,10 @@ use Rattle.tree.specs.declared.Span.{Span}
 use Rattle.bags.specs.Reading.{read_as, rest_of, unary, binary, left_how, right_how}
 use Rattle.bags.specs.declared.How.{How}
 use Rattle.bags.specs.declared.How.TheVariants.{Plain, Spelled}
-use Rattle.held.specs.Words.{at, count, told, named, Wf}
+use Rattle.held.specs.Words.{at, count, told, Wf}
 use Rattle.zones.specs.declared.Zones.{Zones}
 use Rattle.zones.specs.Zones.{Below, meant}
 use Rattle.short.specs.Shortening.{same_zone, same_sequent}
-use Rattle.shown.specs.declared.Matched.{Matched}
-use Rattle.shown.specs.declared.Matched.TheVariants.{Same, Different}
 use Rattle.shown.specs.declared.Tops.{Tops}
 use Rattle.shown.specs.declared.Tops.TheVariants.{Told, One, Two}
 
@@ -27,14 +25,14 @@ pub record Comparing (m : List ℕ) (x : ℕ) (s : List ℕ) (at : ℕ) : Type 0
   pub low : x < count m
   pub inside : at ≤ length s
 
-unfoldable pub matched : Bool → ℕ → Matched
-matched true next = Same next
-matched false next = Different
+unfoldable pub matched : Bool → ℕ → Option ℕ
+matched true next = Some next
+matched false next = None
 
 -- the place after the formula lies in the message
-abbrev pub Inside : ℕ → Matched → Type 0
-Inside len (Same next) = next ≤ len
-Inside len Different = Unit {0}
+abbrev pub Inside : ℕ → Option ℕ → Type 0
+Inside len (Some next) = next ≤ len
+Inside len None = Unit {0}
 
 abbrev pub TopsInside : ℕ → Tops → Type 0
 TopsInside len (Told r) = Inside len r
@@ -70,15 +68,15 @@ module _ (m : List ℕ) (x : ℕ) (how : How) (s : List ℕ) (place : ℕ) where
     pub below : PartsBelow r
     pub right : (f : Formula) → Stands s place (write_formula f) → Tell f r
 
-  pub record Matches (r : Matched) : Type 0 where
+  pub record Matches (r : Option ℕ) : Type 0 where
     pub inside : Inside (length s) r
     pub right : (f : Formula) → Stands s place (write_formula f) → r ≡ matched (same f (read_as how (told m x))) (place + size f)
 
 -- what an answer tells of the formula f at a place: where it is the same, and where it ends; or that it is not
-pub record MatchTells (m : List ℕ) (x : ℕ) (how : How) (place : ℕ) (f : Formula) (r : Matched) : Type 0 where
-  pub same_formula : {next : ℕ} → r ≡ Same next → f ≡ read_as how (told m x)
-  pub next_place : {next : ℕ} → r ≡ Same next → next ≡ place + size f
-  pub other_formula : r ≡ Different → f ≡ read_as how (told m x) → ⊥
+pub record MatchTells (m : List ℕ) (x : ℕ) (how : How) (place : ℕ) (f : Formula) (r : Option ℕ) : Type 0 where
+  pub same_formula : {next : ℕ} → r ≡ Some next → f ≡ read_as how (told m x)
+  pub next_place : {next : ℕ} → r ≡ Some next → next ≡ place + size f
+  pub other_formula : r ≡ None → f ≡ read_as how (told m x) → ⊥
 
 -- how the item at place k is read, where the one at place `spelled` is spelled out
 abbrev pub how_of : (k spelled : ℕ) → How
@@ -95,29 +93,28 @@ unfoldable pub read_from : (k spelled : ℕ) → List Formula → List Formula
 read_from k spelled [] = []
 read_from k spelled (f ∷ fs) = read_as (how_of k spelled) f ∷ read_from (suc k) spelled fs
 
--- the first n items from place k on
-abbrev pub items_from : (m items : List ℕ) (n spelled k : ℕ) → List Formula
-items_from m items n spelled k = read_from k spelled (drop k (named m items n))
+-- the items from place k on
+abbrev pub items_from : (m items : List ℕ) (spelled k : ℕ) → List Formula
+items_from m items spelled k = read_from k spelled (drop k (map (told m) items))
 
--- the first n items are numbers of held formulas
-pub record Listed (m items : List ℕ) (n : ℕ) : Type 0 where
+-- the items are numbers of held formulas
+pub record Listed (m items : List ℕ) : Type 0 where
   pub wf : Wf m
-  pub sized : length items ≡ 31
-  pub few : n ≤ 31
-  pub below : Below (count m) (take n items)
+  pub few : length items ≤ 31
+  pub below : Below (count m) items
 
-pub record ZoneShown (m items : List ℕ) (n spelled : ℕ) (s : List ℕ) (zone : Span) (r : Bool) : Type 0 where
-  pub right : (fs : List Formula) → Holds s zone fs → r ≡ same_zone (spell_nth spelled (named m items n)) fs
+pub record ZoneShown (m items : List ℕ) (spelled : ℕ) (s : List ℕ) (zone : Span) (r : Bool) : Type 0 where
+  pub right : (fs : List Formula) → Holds s zone fs → r ≡ same_zone (spell_nth spelled (map (told m) items)) fs
 
 -- the items from place k on are still to be compared with what the zone holds from p on: the loop's invariant
-module _ (m items : List ℕ) (n spelled : ℕ) (s : List ℕ) (start end p k : ℕ) where
+module _ (m items : List ℕ) (spelled : ℕ) (s : List ℕ) (start end p k : ℕ) where
   pub record Remaining (fs : List Formula) : Type 0 where
     pub rest : List Formula
     pub holds : Holds s (record { start = p; end = end }) rest
-    pub so : same_zone (spell_nth spelled (named m items n)) fs ≡ same_zone (items_from m items n spelled k) rest
+    pub so : same_zone (spell_nth spelled (map (told m) items)) fs ≡ same_zone (items_from m items spelled k) rest
 
   pub record Showing : Type 0 where
-    pub few : k ≤ n
+    pub few : k ≤ length items
     pub inside : p ≤ length s
     pub left : (fs : List Formula) → Holds s (record { start = start; end = end }) fs → Remaining fs
 

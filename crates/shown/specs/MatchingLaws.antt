@@ -1,5 +1,5 @@
 -- A held formula and a formula in bytes: what their tags tell, and how the comparison of their parts is that of the wholes. Assumes nothing.
-use Rattle.std.specs.Prelude.{◌≡◌, Bool, true, false, ◌&&◌, List, length, get_or}
+use Rattle.std.specs.Prelude.{◌≡◌, Bool, true, false, ◌&&◌, List, length, get_or, None, Option, Some}
 use Rattle.std.proofs.Math.Path.{refl, ap}
 use Rattle.std.proofs.Common.{sym, ap₂, ◌∙◌, arith, div-add-mod'}
 use Prim.Native.Nat.{ℕ, suc, ◌+◌, ◌*◌, ◌/◌, ◌%◌, ◌≤◌, ◌<◌, min}
@@ -22,8 +22,6 @@ use Rattle.held.specs.Words.{at, count, told, Row, RowAt, Wf}
 use Rattle.held.specs.WordsLaws.{held_node, row_low}
 use Rattle.held.specs.Answers.{Field}
 use Rattle.shown.specs.Matching.{Comparing, matched, OnePart, TwoParts, TopsAre, Matches, MatchTells}
-use Rattle.shown.specs.declared.Matched.{Matched}
-use Rattle.shown.specs.declared.Matched.TheVariants.{Same, Different}
 use Rattle.shown.specs.declared.Tops.{Tops}
 use Rattle.shown.specs.declared.Tops.TheVariants.{Told, One, Two}
 
@@ -116,7 +114,7 @@ module _ {m : List ℕ} {x : ℕ} (how : How) {s : List ℕ} {place : ℕ} (c : 
   rest_told : {r r' : Rest} → rest_of (told m x) ≡ r → rest_as how (at m x 0) r ≡ r' → rest_of (read_as how (told m x)) ≡ r'
   rest_told e k = read_rest how (told m x) ∙ ap₂ (rest_as how) (told_tag c.wf c.low) e ∙ k
 
-  pub tops_other : (byte ≡ t → ⊥) → TopsAre m x how s place (Told Different)
+  pub tops_other : (byte ≡ t → ⊥) → TopsAre m x how s place (Told None)
   unfolding matched
   tops_other h = record {
     inside = tt;
@@ -131,7 +129,7 @@ module _ {m : List ℕ} {x : ℕ} (how : How) {s : List ℕ} {place : ℕ} (c : 
     tags_alike : (f : Formula) → Stands s place (write_formula f) → tag_of f ≡ tag_of (read_as how (told m x))
     tags_alike f here = tag_here f here ∙ sym sign_told
 
-    pub tops_unit : t < 4 → {next : ℕ} → next ≡ min (place + 1) (length s) → TopsAre m x how s place (Told (Same next))
+    pub tops_unit : t < 4 → {next : ℕ} → next ≡ min (place + 1) (length s) → TopsAre m x how s place (Told (Some next))
     unfolding matched rest_size rest_as
     tops_unit small {next} next_is = record {
       inside = omega arith;
@@ -140,7 +138,7 @@ module _ {m : List ℕ} {x : ℕ} (how : How) {s : List ℕ} {place : ℕ} (c : 
           let r : rest_of f ≡ unit = unit_follows (rest_of f) (follows f) (rw (tag_here f here) small) in
           let z : size f ≡ 1 = size_parts f ∙ ap (λ (r : Rest). suc (rest_size r)) r in
           let e : next ≡ place + size f = omega (arith, ends_inside f here) in
-          rw (same_units f (read_as how (told m x)) (tags_alike f here) r (rest_told (unit_held c.wf c.low how sign_told small) refl)) (ap Same e);
+          rw (same_units f (read_as how (told m x)) (tags_alike f here) r (rest_told (unit_held c.wf c.low how sign_told small) refl)) (ap Some e);
     }
 
     module _ (low : 4 ≤ t) (high : t < 6) {after two name : ℕ} (after_is : after ≡ min (place + 1) (length s))
@@ -156,7 +154,7 @@ module _ {m : List ℕ} {x : ℕ} (how : How) {s : List ℕ} {place : ℕ} (c : 
       unfolding rest_as
       name_told = rest_told (name_held c.wf c.low how sign_told low high) refl ∙ ap named (sym name_is.value)
 
-      pub tops_names_other : (two ≡ name → ⊥) → TopsAre m x how s place (Told Different)
+      pub tops_names_other : (two ≡ name → ⊥) → TopsAre m x how s place (Told None)
       unfolding matched
       tops_names_other h = record {
         inside = tt;
@@ -164,14 +162,14 @@ module _ {m : List ℕ} {x : ℕ} (how : How) {s : List ℕ} {place : ℕ} (c : 
         right = λ f here. rw (same_names f (read_as how (told m x)) (tags_alike f here) (name_of_f f here).0 name_told, ne_eqb two name h);
       }
 
-      pub tops_names : two ≡ name → {next : ℕ} → next ≡ min (place + 3) (length s) → TopsAre m x how s place (Told (Same next))
+      pub tops_names : two ≡ name → {next : ℕ} → next ≡ min (place + 3) (length s) → TopsAre m x how s place (Told (Some next))
       unfolding matched
       tops_names h {next} next_is = record {
         inside = omega arith;
         below = tt;
         right = λ f here.
             let e : next ≡ place + size f = omega (arith, (name_of_f f here).1, ends_inside f here) in
-            rw (same_names f (read_as how (told m x)) (tags_alike f here) (name_of_f f here).0 name_told, eq-eqb two name h) (ap Same e);
+            rw (same_names f (read_as how (told m x)) (tags_alike f here) (name_of_f f here).0 name_told, eq-eqb two name h) (ap Some e);
       }
 
     pub tops_two : 6 ≤ t → t < 11 → TopsAre m x how s place Two
@@ -209,28 +207,28 @@ module _ {m : List ℕ} {x : ℕ} (how : How) {s : List ℕ} {place : ℕ} (c : 
 
 -- ---- the comparison
 
-elsewhere : {r : Matched} {b b' : Bool} {p p' : ℕ} → r ≡ matched b p → b ≡ b' → p ≡ p' → r ≡ matched b' p'
+elsewhere : {r : Option ℕ} {b b' : Bool} {p p' : ℕ} → r ≡ matched b p → b ≡ b' → p ≡ p' → r ≡ matched b' p'
 elsewhere e h k = cc
 
 -- the left parts differ: so do the wholes
-not_both : {r : Matched} (a b : Bool) (p p' : ℕ) → r ≡ matched a p → r ≡ Different → r ≡ matched (a && b) p'
+not_both : {r : Option ℕ} (a b : Bool) (p p' : ℕ) → r ≡ matched a p → r ≡ None → r ≡ matched (a && b) p'
 unfolding matched
 not_both true b p p' e k = let z : ◌≡◌ {A = ℕ} 0 1 = cc in absurd (omega arith)
 not_both false b p p' e k = k
 
 -- a comparison that says yes, and where it ends; and one that says no
-pub matched_same : {r : Matched} (a : Bool) (p : ℕ) {next : ℕ} → r ≡ matched a p → r ≡ Same next → (a ≡ true) × (next ≡ p)
+pub matched_same : {r : Option ℕ} (a : Bool) (p : ℕ) {next : ℕ} → r ≡ matched a p → r ≡ Some next → (a ≡ true) × (next ≡ p)
 unfolding matched
 matched_same true p e k = (refl, cc)
 matched_same false p e k = let z : ◌≡◌ {A = ℕ} 0 1 = cc in absurd (omega arith)
 
-pub matched_different : {r : Matched} (a : Bool) (p : ℕ) → r ≡ matched a p → r ≡ Different → a ≡ false
+pub matched_different : {r : Option ℕ} (a : Bool) (p : ℕ) → r ≡ matched a p → r ≡ None → a ≡ false
 unfolding matched
 matched_different true p e k = let z : ◌≡◌ {A = ℕ} 0 1 = cc in absurd (omega arith)
 matched_different false p e k = refl
 
 module _ {m : List ℕ} {x : ℕ} {how : How} {s : List ℕ} {place : ℕ} where
-  pub match_told : {t : Tops} {r : Matched} → TopsAre m x how s place t → t ≡ Told r → Matches m x how s place r
+  pub match_told : {t : Tops} {r : Option ℕ} → TopsAre m x how s place t → t ≡ Told r → Matches m x how s place r
   match_told tops e = let tops = rw e at tops in record { inside = tops.inside; right = tops.right }
 
   pub one_falls : {t : Tops} → TopsAre m x how s place t → t ≡ One → at m x 1 < x
@@ -240,7 +238,7 @@ module _ {m : List ℕ} {x : ℕ} {how : How} {s : List ℕ} {place : ℕ} where
   two_fall tops e = rw e at tops.below
 
   -- the left part, or the only one, compared behind the tag
-  module _ {t : Tops} {tag a after : ℕ} {how' : How} {r : Matched} (tops : TopsAre m x how s place t)
+  module _ {t : Tops} {tag a after : ℕ} {how' : How} {r : Option ℕ} (tops : TopsAre m x how s place t)
       (tag_is : Field m x 0 tag) (a_is : Field m x 1 a) (how_is : how' ≡ left_how tag how) (after_is : after ≡ min (place + 1) (length s)) (lefts : Matches m a how' s after r) where
     after_tag : (f : Formula) → Stands s place (write_formula f) → after ≡ place + 1
     after_tag f here = omega (arith, ends_inside f here, size_positive f)
@@ -266,10 +264,10 @@ module _ {m : List ℕ} {x : ℕ} {how : How} {s : List ℕ} {place : ℕ} where
       both_same : same f (read_as how (told m x)) ≡ same two.left (read_as how' (told m a)) && same two.right (read_as (right_how how) (told m (at m x 2)))
       both_same = two.both ∙ ap (λ g. same two.left g && same two.right (read_as (right_how how) (told m (at m x 2)))) left_read
 
-      other_right : r ≡ Different → r ≡ matched (same f (read_as how (told m x))) (place + size f)
+      other_right : r ≡ None → r ≡ matched (same f (read_as how (told m x))) (place + size f)
       other_right e = rw both_same (not_both _ _ _ _ left_same e)
 
-      two_right : {next b : ℕ} {how'' : How} {r' : Matched} → r ≡ Same next → Field m x 2 b → how'' ≡ right_how how → Matches m b how'' s next r'
+      two_right : {next b : ℕ} {how'' : How} {r' : Option ℕ} → r ≡ Some next → Field m x 2 b → how'' ≡ right_how how → Matches m b how'' s next r'
           → r' ≡ matched (same f (read_as how (told m x))) (place + size f)
       two_right {next} {b} {how''} e b_is right_is rights =
           let l = matched_same _ _ left_same e in
@@ -281,19 +279,19 @@ module _ {m : List ℕ} {x : ℕ} {how : How} {s : List ℕ} {place : ℕ} where
           (sym (both_same ∙ ap₂ ◌&&◌ l.0 (ap (same two.right) reads)))
           (omega (arith, there, p.2))
 
-    pub match_left : t ≡ Two → r ≡ Different → Matches m x how s place r
+    pub match_left : t ≡ Two → r ≡ None → Matches m x how s place r
     match_left e d = record { inside = lefts.inside; right = λ f here. other_right f here (rw e at (tops.right f here)) d }
 
-    pub match_two : t ≡ Two → {next b : ℕ} {how'' : How} {r' : Matched} → r ≡ Same next → Field m x 2 b → how'' ≡ right_how how → Matches m b how'' s next r'
+    pub match_two : t ≡ Two → {next b : ℕ} {how'' : How} {r' : Option ℕ} → r ≡ Some next → Field m x 2 b → how'' ≡ right_how how → Matches m b how'' s next r'
         → Matches m x how s place r'
     match_two e k b_is right_is rights = record { inside = rights.inside; right = λ f here. two_right f here (rw e at (tops.right f here)) k b_is right_is rights }
 
   -- the place after the formula lies in the message
-  pub next_inside : {r : Matched} {next : ℕ} → Matches m x how s place r → r ≡ Same next → next ≤ length s
+  pub next_inside : {r : Option ℕ} {next : ℕ} → Matches m x how s place r → r ≡ Some next → next ≤ length s
   next_inside c e = rw e at c.inside
 
   -- what the answer tells of the formula that stands there
-  pub matches_tells : {r : Matched} {f : Formula} → Matches m x how s place r → Stands s place (write_formula f) → MatchTells m x how place f r
+  pub matches_tells : {r : Option ℕ} {f : Formula} → Matches m x how s place r → Stands s place (write_formula f) → MatchTells m x how place f r
   matches_tells {r} {f} c here = record {
     same_formula = λ e. (same_iff f (read_as how (told m x))).0 (matched_same _ _ (c.right f here) e).0;
     next_place = λ e. (matched_same _ _ (c.right f here) e).1;

@@ -1,8 +1,8 @@
 -- A sequent of held formulas and a node's zones: items and formulas compared one by one are the zones compared, and the first decomposable formula is
 -- the one spelled out. Assumes nothing.
-use Rattle.std.specs.Prelude.{◌≡◌, Bool, true, false, ◌&&◌, ℕ, zero, suc, ◌+◌, ◌≤◌, ◌<◌, eqb, length, get_or, take}
+use Rattle.std.specs.Prelude.{◌≡◌, Bool, true, false, ◌&&◌, ℕ, zero, suc, ◌+◌, ◌≤◌, ◌<◌, eqb, length, get_or, map, Option, Some, None}
 use Rattle.std.proofs.Math.Path.{refl, sym, ap}
-use Rattle.std.proofs.Common.{ap₂, ◌∙◌, suc-le-suc, arith, le_of_suc-le-suc, add-one, ne_eqb, eq-eqb, length-append, length-take-le, get_or-take, drop-cons}
+use Rattle.std.proofs.Common.{ap₂, ◌∙◌, suc-le-suc, arith, le_of_suc-le-suc, add-one, ne_eqb, eq-eqb, length-append, get_or-take, drop-cons}
 use mathlib.Core.List.{List, [], ◌∷◌}
 use Rattle.std.proofs.Math.ListN.{drop, get_or-map}
 use Rattle.std.proofs.lemmas.List.{length-map}
@@ -21,15 +21,14 @@ use Rattle.tree.specs.declared.Node.{Node}
 use Rattle.bags.specs.Reading.{read_as}
 use Rattle.bags.specs.declared.How.{How}
 use Rattle.bags.specs.declared.How.TheVariants.{Plain, Spelled}
-use Rattle.held.specs.Words.{count, told, named}
+use Rattle.held.specs.Words.{count, told}
 use Rattle.zones.specs.declared.Zones.{Zones}
-use Rattle.zones.specs.Zones.{meant}
+use Rattle.zones.specs.Zones.{linears, unrestricteds, meant}
+use Rattle.zones.specs.ZonesLaws.{linears_length, unrestricteds_length}
 use Rattle.expand.specs.Writing.{Sound, FirstAt}
 use Rattle.short.specs.Shortening.{same_zone, same_sequent}
 use Rattle.shown.specs.Matching.{Comparing, Matches, how_of, spell_nth, read_from, items_from, Listed, ZoneShown, Remaining, Showing, UnrestrictedShown, Shown}
 use Rattle.shown.specs.MatchingLaws.{matched_same, matched_different, next_inside}
-use Rattle.shown.specs.declared.Matched.{Matched}
-use Rattle.shown.specs.declared.Matched.TheVariants.{Same, Different}
 
 -- ---- how items are read
 
@@ -72,23 +71,23 @@ spell_first_nth (f ∷ fs) (suc i) low passed here =
 
 -- ---- the items
 
-module _ {m items : List ℕ} {n : ℕ} (z : Listed m items n) where
-  named_length : length (named m items n) ≡ n
-  named_length = length-map (take n items) (told m) ∙ length-take-le n items (omega (arith, z.sized, z.few))
+module _ {m items : List ℕ} (z : Listed m items) where
+  told_length : length (map (told m) items) ≡ length items
+  told_length = length-map items (told m)
 
-  pub item_low : (k : ℕ) → k < n → get_or items k 0 < count m
-  item_low k h = rw (get_or-take n items k 0 h) at (z.below.below k (omega (arith, length-take-le n items (omega (arith, z.sized, z.few)))))
+  pub item_low : (k : ℕ) → k < length items → get_or items k 0 < count m
+  item_low k h = z.below.below k h
 
-  named_at : (k : ℕ) → k < n → drop k (named m items n) ≡ told m (get_or items k 0) ∷ drop (suc k) (named m items n)
-  named_at k h =
-      drop-cons (named m items n) k (told m 0) (omega (arith, named_length))
-      ∙ ap (λ f. f ∷ drop (suc k) (named m items n)) (get_or-map (told m) (take n items) k 0 ∙ ap (told m) (get_or-take n items k 0 h))
+  told_at : (k : ℕ) → k < length items → drop k (map (told m) items) ≡ told m (get_or items k 0) ∷ drop (suc k) (map (told m) items)
+  told_at k h =
+      drop-cons (map (told m) items) k (told m 0) (omega (arith, told_length))
+      ∙ ap (λ f. f ∷ drop (suc k) (map (told m) items)) (get_or-map (told m) items k 0)
 
-  pub named_getD : (k : ℕ) → k < n → get_or (named m items n) k One ≡ told m (get_or items k 0)
-  named_getD k h = ap (λ fs. get_or fs 0 One) (sym (drop-cons (named m items n) k One (omega (arith, named_length))) ∙ named_at k h)
+  told_getD : (k : ℕ) → k < length items → get_or (map (told m) items) k One ≡ told m (get_or items k 0)
+  told_getD k h = ap (λ fs. get_or fs 0 One) (sym (drop-cons (map (told m) items) k One (omega (arith, told_length))) ∙ told_at k h)
 
-  named_end : drop n (named m items n) ≡ []
-  named_end = rw named_length at (drop-length (named m items n))
+  told_end : drop (length items) (map (told m) items) ≡ []
+  told_end = rw told_length at (drop-length (map (told m) items))
 
 -- ---- zones compared in order
 
@@ -128,48 +127,48 @@ over {p = p} {end} (g ∷ gs) holds = ne_eqb p end λ e. omega (arith, holds_som
 
 -- ---- the loop over items and formulas
 
-module _ {m items : List ℕ} {n spelled : ℕ} {s : List ℕ} {start end : ℕ} (z : Listed m items n) where
-  pub showing_start : start ≤ length s → Showing m items n spelled s start end start 0
+module _ {m items : List ℕ} {spelled : ℕ} {s : List ℕ} {start end : ℕ} (z : Listed m items) where
+  pub showing_start : start ≤ length s → Showing m items spelled s start end start 0
   showing_start h = record {
     few = omega arith;
     inside = h;
-    left = λ fs holds. record { rest = fs; holds = holds; so = ap (λ gs. same_zone gs fs) (sym (read_all spelled (named m items n))) };
+    left = λ fs holds. record { rest = fs; holds = holds; so = ap (λ gs. same_zone gs fs) (sym (read_all spelled (map (told m) items))) };
   }
 
-  module _ {p k : ℕ} (t : Showing m items n spelled s start end p k) where
-    pub compares : k < n → Comparing m (get_or items k 0) s p
+  module _ {p k : ℕ} (t : Showing m items spelled s start end p k) where
+    pub compares : k < length items → Comparing m (get_or items k 0) s p
     compares h = record { wf = z.wf; low = item_low z k h; inside = t.inside }
 
     -- what is left begins with the item at place k
-    next_item : k < n → (gs : List Formula)
-        → same_zone (items_from m items n spelled k) gs ≡ same_zone (read_as (how_of k spelled) (told m (get_or items k 0)) ∷ items_from m items n spelled (suc k)) gs
+    next_item : k < length items → (gs : List Formula)
+        → same_zone (items_from m items spelled k) gs ≡ same_zone (read_as (how_of k spelled) (told m (get_or items k 0)) ∷ items_from m items spelled (suc k)) gs
     unfolding read_from
-    next_item h gs = rw (named_at z k h) refl
+    next_item h gs = rw (told_at z k h) refl
 
     -- no formula is left for it
-    pub showing_short : k < n → end ≤ p → ZoneShown m items n spelled s (record { start = start; end = end }) false
+    pub showing_short : k < length items → end ≤ p → ZoneShown m items spelled s (record { start = start; end = end }) false
     showing_short h short = record {
       right = λ fs holds.
           let l = t.left fs holds in
           sym (l.so ∙ next_item h l.rest ∙ none_against _ _ (holds_none l.rest l.holds short));
     }
 
-    module _ {how : How} {r : Matched} (h : k < n) (how_is : how ≡ how_of k spelled) (more : p < end) (c : Matches m (get_or items k 0) how s p r) where
+    module _ {how : How} {r : Option ℕ} (h : k < length items) (how_is : how ≡ how_of k spelled) (more : p < end) (c : Matches m (get_or items k 0) how s p r) where
       abbrev later : List Formula
-      later = items_from m items n spelled (suc k)
+      later = items_from m items spelled (suc k)
 
-      first_left : (fs : List Formula) → (l : Remaining m items n spelled s start end p k fs) → First s (record { start = p; end = end }) l.rest
+      first_left : (fs : List Formula) → (l : Remaining m items spelled s start end p k fs) → First s (record { start = p; end = end }) l.rest
       first_left fs l = holds_first l.rest l.holds more
 
-      first_so : (fs : List Formula) (l : Remaining m items n spelled s start end p k fs)
-          → same_zone (spell_nth spelled (named m items n)) fs ≡ same (first_left fs l).formula (read_as how (told m (get_or items k 0))) && same_zone later (first_left fs l).others
+      first_so : (fs : List Formula) (l : Remaining m items spelled s start end p k fs)
+          → same_zone (spell_nth spelled (map (told m) items)) fs ≡ same (first_left fs l).formula (read_as how (told m (get_or items k 0))) && same_zone later (first_left fs l).others
       first_so fs l =
           l.so
           ∙ next_item h l.rest
           ∙ first_against _ _ _ _ (first_left fs l).joined
           ∙ ap (λ how. same (first_left fs l).formula (read_as how (told m (get_or items k 0))) && same_zone later (first_left fs l).others) (sym how_is)
 
-      pub showing_differs : r ≡ Different → ZoneShown m items n spelled s (record { start = start; end = end }) false
+      pub showing_differs : r ≡ None → ZoneShown m items spelled s (record { start = start; end = end }) false
       showing_differs e = record {
         right = λ fs holds.
             let l = t.left fs holds in
@@ -177,7 +176,7 @@ module _ {m items : List ℕ} {n spelled : ℕ} {s : List ℕ} {start end : ℕ}
             sym (first_so fs l ∙ ap (λ b. b && same_zone later f.others) (matched_different _ _ (c.right f.formula f.there.stands) e));
       }
 
-      pub showing_next : {next : ℕ} → r ≡ Same next → Showing m items n spelled s start end next (k + 1)
+      pub showing_next : {next : ℕ} → r ≡ Some next → Showing m items spelled s start end next (k + 1)
       showing_next {next} e = rw (add-one k) record {
         few = omega arith;
         inside = next_inside c e;
@@ -193,45 +192,46 @@ module _ {m items : List ℕ} {n spelled : ℕ} {s : List ℕ} {start end : ℕ}
       }
 
     -- every item is compared: no formula may be left over
-    pub showing_end : n ≤ k → ZoneShown m items n spelled s (record { start = start; end = end }) (eqb p end)
+    pub showing_end : length items ≤ k → ZoneShown m items spelled s (record { start = start; end = end }) (eqb p end)
     unfolding read_from
     showing_end h = record {
       right = λ fs holds.
           let l = t.left fs holds in
-          let e : k ≡ n = omega (arith, t.few) in
-          let none : drop k (named m items n) ≡ [] = rw e (named_end z) in
+          let e : k ≡ length items = omega (arith, t.few) in
+          let none : drop k (map (told m) items) ≡ [] = rw e (told_end z) in
           over l.rest l.holds ∙ ap (λ gs. same_zone (read_from k spelled gs) l.rest) (sym none) ∙ sym l.so;
     }
 
 -- ---- the sequent
 
 module _ {m : List ℕ} {z : Zones} (sound : Sound m z) where
-  pub linear_listed : Listed m z.linear z.linear_len
-  linear_listed = record { wf = sound.wf; sized = sound.fits.linear_sized; few = omega (arith, sound.fits.few); below = sound.within.linear }
+  pub linear_listed : Listed m (linears z)
+  linear_listed = record { wf = sound.wf; few = omega (arith, linears_length sound.fits, sound.fits.few); below = sound.within.linear }
 
-  pub unrestricted_listed : Listed m z.unrestricted z.unrestricted_len
-  unrestricted_listed = record { wf = sound.wf; sized = sound.fits.unrestricted_sized; few = omega (arith, sound.fits.few); below = sound.within.unrestricted }
+  pub unrestricted_listed : Listed m (unrestricteds z)
+  unrestricted_listed = record { wf = sound.wf; few = omega (arith, unrestricteds_length sound.fits, sound.fits.few); below = sound.within.unrestricted }
 
-  pub unrestricted_is : {s : List ℕ} {zone : Span} {r : Bool} → ZoneShown m z.unrestricted z.unrestricted_len 31 s zone r → UnrestrictedShown m z s zone r
+  pub unrestricted_is : {s : List ℕ} {zone : Span} {r : Bool} → ZoneShown m (unrestricteds z) 31 s zone r → UnrestrictedShown m z s zone r
   unrestricted_is c = record {
     right = λ fs holds.
-        let n = named_length unrestricted_listed in
+        let n = told_length unrestricted_listed in
         c.right fs holds ∙ ap (λ gs. same_zone gs fs) (spell_none 31 (meant (told m) z).unrestricted (omega (arith, unrestricted_listed.few)));
   }
 
   -- the first decomposable formula is the one at the place found
-  first_spelled : {i : ℕ} → FirstAt m z i → spell_first (meant (told m) z).linear ≡ spell_nth i (named m z.linear z.linear_len)
+  first_spelled : {i : ℕ} → FirstAt m z i → spell_first (meant (told m) z).linear ≡ spell_nth i (map (told m) (linears z))
   first_spelled {i} f =
-      let n = named_length linear_listed in
+      let n = told_length linear_listed in
+      let long = linears_length sound.fits in
       spell_first_nth (meant (told m) z).linear i (omega (arith, f.low))
       (λ k h. ap decomposable (named_item k (omega (arith, f.low))) ∙ f.passed k h)
       (λ h. ap decomposable (named_item i (omega arith)) ∙ f.here (omega arith))
     where
-      named_item : (k : ℕ) → k < z.linear_len → get_or (named m z.linear z.linear_len) k One ≡ told m (get_or z.linear k 0)
-      named_item k h = named_getD linear_listed k h
+      named_item : (k : ℕ) → k < z.linear_len → get_or (map (told m) (linears z)) k One ≡ told m (get_or z.linear k 0)
+      named_item k h = told_getD linear_listed k (omega (arith, linears_length sound.fits)) ∙ ap (told m) (get_or-take z.linear_len z.linear k 0 h)
 
   module _ {s : List ℕ} {place i : ℕ} {n : Node} {linear : Bool} (found : NodeFound s place n) (first : FirstAt m z i)
-      (shown : ZoneShown m z.linear z.linear_len i s n.linear linear) where
+      (shown : ZoneShown m (linears z) i s n.linear linear) where
     linear_so : (q : Sequent) → Holds s n.linear q.linear → linear ≡ same_zone (spell_first (meant (told m) z).linear) q.linear
     linear_so q holds = shown.right q.linear holds ∙ ap (λ gs. same_zone gs q.linear) (sym (first_spelled first))
 

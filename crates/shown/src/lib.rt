@@ -13,17 +13,10 @@ use held::words::field;
 use tree::{Span, node_at};
 use zones::Zones;
 
-// A comparison: the place after the formula, where it is the same.
-#[derive(Clone, Copy)]
-pub enum Matched {
-    Same(usize),
-    Different,
-}
-
 // What is known at the tags: the comparison, or that one part or two are still to be compared.
 #[derive(Clone, Copy)]
 pub enum Tops {
-    Told(Matched),
+    Told(Option<usize>),
     One,
     Two,
 }
@@ -36,16 +29,16 @@ fn match_tops(mem: &[u16], x: usize, how: How, s: &[u8], at: usize) -> Tops
     let tag = field(mem, x, 0) as u8;
     let t = sign(tag, how);
     if tree::byte_at(s, at) != t {
-        return Tops::Told(Matched::Different);
+        return Tops::Told(None);
     }
     if t < 4 {
-        return Tops::Told(Matched::Same(tree::after(s, at, 1)));
+        return Tops::Told(Some(tree::after(s, at, 1)));
     }
     if t < 6 {
         if tree::two_at(s, tree::after(s, at, 1)) != field(mem, x, 1) {
-            return Tops::Told(Matched::Different);
+            return Tops::Told(None);
         }
-        return Tops::Told(Matched::Same(tree::after(s, at, 3)));
+        return Tops::Told(Some(tree::after(s, at, 3)));
     }
     if t > 10 {
         return Tops::One;
@@ -54,7 +47,7 @@ fn match_tops(mem: &[u16], x: usize, how: How, s: &[u8], at: usize) -> Tops
 }
 
 // The held formula x, read so, and the formula at a place, walked in step.
-pub fn matches(mem: &[u16], x: usize, how: How, s: &[u8], at: usize) -> Matched
+pub fn matches(mem: &[u16], x: usize, how: How, s: &[u8], at: usize) -> Option<usize>
     requires { Comparing mem.now x s.now at }
     ensures { Matches mem.now x how s.now at result }
 {
@@ -69,10 +62,7 @@ pub fn matches(mem: &[u16], x: usize, how: How, s: &[u8], at: usize) -> Matched
             let tag = field(mem, x, 0) as u8;
             let a = field(mem, x, 1);
             let b = field(mem, x, 2);
-            let left = matches(mem, a, left_how(tag, how), s, tree::after(s, at, 1));
-            let Matched::Same(next) = left else {
-                return left;
-            };
+            let next = matches(mem, a, left_how(tag, how), s, tree::after(s, at, 1))?;
             matches(mem, b, right_how(how), s, next)
         }
     }
@@ -89,31 +79,21 @@ fn how_at(k: usize, spelled: usize) -> How
     }
 }
 
-// Whether the first n items are the formulas of the zone, in order, the one at place `spelled` spelled out at its top.
-pub fn zone_shown(
-    mem: &[u16],
-    items: [u16; 31],
-    n: usize,
-    spelled: usize,
-    s: &[u8],
-    zone: Span,
-) -> bool
-    requires { Listed mem.now items n × Within (length s.now) zone }
-    ensures { ZoneShown mem.now items n spelled s.now zone result }
+// Whether the items are the formulas of the zone, in order, the one at place `spelled` spelled out at its top.
+pub fn zone_shown(mem: &[u16], items: &[u16], spelled: usize, s: &[u8], zone: Span) -> bool
+    requires { Listed mem.now items.now × Within (length s.now) zone }
+    ensures { ZoneShown mem.now items.now spelled s.now zone result }
 {
     let end = zone.end;
     let mut p = zone.start;
-    let mut k = 0;
-    while k < n {
+    for (k, &x) in items.iter().enumerate() {
         if end <= p {
             return false;
         }
-        let x = items[k] as usize;
-        let Matched::Same(next) = matches(mem, x, how_at(k, spelled), s, p) else {
+        let Some(next) = matches(mem, usize::from(x), how_at(k, spelled), s, p) else {
             return false;
         };
         p = next;
-        k += 1;
     }
     p == end
 }
@@ -126,8 +106,8 @@ pub fn unrestricted_shown(mem: &[u16], z: Zones, s: &[u8], zone: Span) -> bool
     requires { Sound mem.now z × Within (length s.now) zone }
     ensures { UnrestrictedShown mem.now z s.now zone result }
 {
-    let items = z.unrestricted;
-    zone_shown(mem, items, z.unrestricted_len, NOWHERE, s, zone)
+    let items = &z.unrestricted[..z.unrestricted_len];
+    zone_shown(mem, items, NOWHERE, s, zone)
 }
 
 // Whether the node at a place concludes the sequent, an implication that is the first decomposable formula spelled out.
@@ -137,8 +117,8 @@ pub fn is_shown(mem: &[u16], z: Zones, s: &[u8], at: usize) -> bool
 {
     let node = node_at(s, at);
     let first = first_decomposable(mem, z);
-    let items = z.linear;
-    if !zone_shown(mem, items, z.linear_len, first, s, node.linear) {
+    let items = &z.linear[..z.linear_len];
+    if !zone_shown(mem, items, first, s, node.linear) {
         return false;
     }
     unrestricted_shown(mem, z, s, node.unrestricted)
