@@ -1,8 +1,10 @@
 -- Laws of numbering formulas in bytes: the number of the formula at a place, and those of a zone's formulas but for the last. Assumes nothing.
-use Rattle.std.specs.Prelude.{◌≡◌, Bool, List, [], ◌∷◌, ◌++◌, map, ℕ, suc, ◌+◌, ◌≤◌, ◌<◌, get_or, length, take, set}
+use Rattle.std.specs.Prelude.{◌≡◌, Bool, List, [], ◌∷◌, ◌++◌, map, ℕ, suc, ◌+◌, ◌≤◌, ◌<◌, get_or, length, take, set, None, Option, Some}
 use Rattle.std.proofs.Math.Path.{refl, sym, ap}
-use Rattle.std.proofs.Common.{subst, ◌∙◌, append_assoc, add-one, arith, length-append, length-set, length-take-le, take-suc-set}
+use Rattle.std.proofs.Common.{subst, ◌∙◌, append_assoc, add-one, arith, get_or-take, length-append, length-set, length-take-le, take-suc-set}
 use Rattle.std.proofs.Math.Bool.{true, false}
+use Rattle.std.proofs.lemmas.Bool.{false≢true}
+use Rattle.std.specs.Option.{is_some}
 use Rattle.std.proofs.lemmas.List.{map-append, length-map, get_or_at}
 use Rattle.std.proofs.Math.Dec.{ltb}
 use Rattle.std.proofs.Math.ListN.{get_or-append}
@@ -13,23 +15,33 @@ use Rattle.tree.specs.Places.{Holds, Passed}
 use Rattle.tree.specs.declared.Span.{Span}
 use Rattle.held.specs.Words.{count, told}
 use Rattle.zones.specs.declared.Zones.{Zones}
-use Rattle.zones.specs.Zones.{Below}
-use Rattle.zones.specs.ZonesLaws.{within_linear, below_append, below_one}
+use Rattle.zones.specs.Zones.{linears, Below}
+use Rattle.zones.specs.ZonesLaws.{linears_length, within_linear, below_append, below_one}
 use Rattle.expand.specs.Writing.{Sound}
 use Rattle.bags.specs.Reading.{read_as}
 use Rattle.bags.specs.declared.How.{How}
 use Rattle.bags.specs.declared.How.TheVariants.{Plain}
-use Rattle.shown.specs.declared.Matched.{Matched}
-use Rattle.shown.specs.declared.Matched.TheVariants.{Same, Different}
 use Rattle.shown.specs.Matching.{Comparing, Matches}
 use Rattle.shown.specs.MatchingLaws.{matches_tells}
-use Rattle.split.specs.declared.Label.{Label}
-use Rattle.split.specs.declared.Label.TheVariants as label
 use Rattle.split.specs.declared.Labels.{Labels}
-use Rattle.split.specs.declared.Labels.TheVariants as labels
 use Rattle.split.specs.Splitting.{LabelOf, LabelNone, Labelled, Unlike, Linears, Listing, LabelsListed, LabelsNone, LabelledTo}
 
+-- ---- an answer by its test
+
+pub some_of : (r : Option ℕ) → is_some r ≡ true → (next : ℕ) × (r ≡ Some next)
+some_of (Some next) e = (next, refl)
+some_of None e = absurd (false≢true e)
+
+pub none_of : (r : Option ℕ) → is_some r ≡ false → r ≡ None
+none_of (Some next) e = absurd (false≢true (sym e))
+none_of None e = refl
+
 -- ---- one formula
+
+pub linear_item : {m : List ℕ} {z : Zones} → Sound m z → (k : ℕ) → k < length (linears z) → (k < z.linear_len) × (get_or (linears z) k 0 ≡ get_or z.linear k 0)
+linear_item {z = z} sound k h =
+    let low : k < z.linear_len = omega (arith, linears_length sound.fits) in
+    (low, get_or-take z.linear_len z.linear k 0 low)
 
 pub linear_low : {m : List ℕ} {z : Zones} → Sound m z → (k : ℕ) → k < z.linear_len → get_or z.linear k 0 < count m
 linear_low {m} sound k l = within_linear (count m) sound.fits sound.within k l
@@ -41,15 +53,15 @@ module _ {m : List ℕ} {z : Zones} (sound : Sound m z) {s : List ℕ} {at : ℕ
   pub unlike_start : Unlike m z s at 0
   unlike_start f there j l e = omega arith
 
-  module _ {k : ℕ} {how : How} {r : Matched} (l : k < z.linear_len) (plain : how ≡ Plain) (match : Matches m (get_or z.linear k 0) how s at r) where
-    pub label_found : {next : ℕ} → r ≡ Same next → LabelOf m z s at (get_or z.linear k 0)
+  module _ {k : ℕ} {how : How} {r : Option ℕ} (l : k < z.linear_len) (plain : how ≡ Plain) (match : Matches m (get_or z.linear k 0) how s at r) where
+    pub label_found : {next : ℕ} → r ≡ Some next → LabelOf m z s at (get_or z.linear k 0)
     unfolding read_as
     label_found e = record {
       low = linear_low sound k l;
       is = λ f there. sym (rw plain at ((matches_tells match there).same_formula e));
     }
 
-    pub unlike_next : r ≡ Different → Unlike m z s at k → Unlike m z s at (k + 1)
+    pub unlike_next : r ≡ None → Unlike m z s at k → Unlike m z s at (k + 1)
     unfolding read_as
     unlike_next e before f there j c same = go (ltb j k) refl
       where
@@ -189,15 +201,15 @@ listing_start sized h = record {
 -- ---- an answer by its case
 
 module _ {m : List ℕ} {z : Zones} {s : List ℕ} where
-  pub labelled_of : {at x : ℕ} (r : Label) → Labelled m z s at r → r ≡ label.Of x → LabelOf m z s at x
-  labelled_of {at} r a e = subst (λ (r : Label). Labelled m z s at r) e a
+  pub labelled_of : {at x : ℕ} (r : Option ℕ) → Labelled m z s at r → r ≡ Some x → LabelOf m z s at x
+  labelled_of {at} r a e = subst (λ (r : Option ℕ). Labelled m z s at r) e a
 
-  pub labelled_none : {at : ℕ} (r : Label) → Labelled m z s at r → r ≡ label.None → LabelNone m z s at
-  labelled_none {at} r a e = subst (λ (r : Label). Labelled m z s at r) e a
+  pub labelled_none : {at : ℕ} (r : Option ℕ) → Labelled m z s at r → r ≡ None → LabelNone m z s at
+  labelled_none {at} r a e = subst (λ (r : Option ℕ). Labelled m z s at r) e a
 
-  pub labelled_listed : {zone : Span} {n last : ℕ} {numbers : List ℕ} (r : Labels) → LabelledTo m z s zone r numbers → r ≡ labels.Listed n last
-      → LabelsListed m z s zone n last numbers
-  labelled_listed {zone} {numbers = numbers} r a e = subst (λ (r : Labels). LabelledTo m z s zone r numbers) e a
+  pub labelled_listed : {zone : Span} {numbers : List ℕ} {x : Labels} (r : Option Labels) → LabelledTo m z s zone r numbers → r ≡ Some x
+      → LabelsListed m z s zone x.count x.last numbers
+  labelled_listed {zone} {numbers} r a e = subst (λ (r : Option Labels). LabelledTo m z s zone r numbers) e a
 
-  pub labelled_unlisted : {zone : Span} (numbers : List ℕ) (r : Labels) → LabelledTo m z s zone r numbers → r ≡ labels.None → LabelsNone m z s zone
-  labelled_unlisted {zone} numbers r a e = subst (λ (r : Labels). LabelledTo m z s zone r numbers) e a
+  pub labelled_unlisted : {zone : Span} (numbers : List ℕ) (r : Option Labels) → LabelledTo m z s zone r numbers → r ≡ None → LabelsNone m z s zone
+  labelled_unlisted {zone} numbers r a e = subst (λ (r : Option Labels). LabelledTo m z s zone r numbers) e a

@@ -1,5 +1,5 @@
 -- Laws of the least place and mask of a tensor whose premises stand in a tree: one for each way out of `least_tensor`. Assumes nothing.
-use Rattle.std.specs.Prelude.{◌≡◌, Bool, ℕ, ◌+◌, ◌≤◌, ◌<◌, take}
+use Rattle.std.specs.Prelude.{◌≡◌, Bool, ℕ, ◌+◌, ◌≤◌, ◌<◌, take, Option, None}
 use Rattle.std.proofs.Math.Path.{refl, ap, ap₂, subst}
 use Rattle.std.proofs.Common.{sym, ◌∙◌, arith}
 use Rattle.std.proofs.Math.Bool.{true, false}
@@ -54,8 +54,6 @@ use Rattle.short.specs.Shortening.{fits, least}
 use Rattle.short.proofs.LeastLaws.{same_zone_iff, fits_takes, least_none}
 use Rattle.shown.specs.Matching.{UnrestrictedShown}
 use Rattle.step.specs.Taking.{sequent}
-use Rattle.split.specs.declared.Least.{Least}
-use Rattle.split.specs.declared.Least.TheVariants.{Nowhere}
 use Rattle.split.specs.Splitting.{Linear, LabelsListed, LabelsNone, Splitting, SplitTo, least_of, LeastStep}
 use Rattle.split.specs.Tensors.{Each, Passes, TensorFits, TwoPremises}
 use Rattle.split.specs.TensorLaws.{each_left, each_right, each_remove, each_at, each_by, passed_each, each_passed, taken_passed, fits_tensor}
@@ -125,7 +123,7 @@ module _ {m : List ℕ} {z : Zones} (sound : Sound m z) {k : ℕ} (first : First
       rw (formula_told sound i low) (first.passed i (omega arith)))))
 
   -- or one is: no tensor's step can be taken
-  pub some_decomposable : {s : List ℕ} {at : ℕ} → k < z.linear_len → LeastStep m z 4 s at Nowhere
+  pub some_decomposable : {s : List ℕ} {at : ℕ} → k < z.linear_len → LeastStep m z 4 s at None
   some_decomposable {s} {at} l = record {
     taken = tt;
     is = λ r ps fs number stands fit two.
@@ -160,7 +158,7 @@ module _ {m : List ℕ} {z : Zones} (sound : Sound m z) {s : List ℕ} {at next 
   -- no tensor's step has such premises
   nowhere_by : ((one two : Sequent) → Holds s first.linear one.linear → Holds s first.unrestricted one.unrestricted → length one.linear ≤ 31
       → Holds s second.linear two.linear → Holds s second.unrestricted two.unrestricted → length two.linear ≤ 31 → (i mask : ℕ)
-      → TensorFits (sequent m z) one two i mask → ⊥) → LeastStep m z 4 s at Nowhere
+      → TensorFits (sequent m z) one two i mask → ⊥) → LeastStep m z 4 s at None
   unfolding follow
   nowhere_by never = record {
     taken = tt;
@@ -179,11 +177,11 @@ module _ {m : List ℕ} {z : Zones} (sound : Sound m z) {s : List ℕ} {at next 
           (fits_tensor (sequent m z) i mask p.one p.two (ap (λ (ds : List Sequent). fits TensorIntro (sequent m z) ds i mask) (sym p.are) ∙ e)))
 
   -- another unrestricted zone
-  pub other_unrestricted : {b : Bool} → UnrestrictedShown m z s first.unrestricted b → b ≡ false → LeastStep m z 4 s at Nowhere
+  pub other_unrestricted : {b : Bool} → UnrestrictedShown m z s first.unrestricted b → b ≡ false → LeastStep m z 4 s at None
   other_unrestricted shown other =
       nowhere_by (λ one two a b c a' b' c' i mask f. false≢true (sym other ∙ shown.right one.unrestricted b ∙ (same_zone_iff _ _).1 (sym f.left_unrestricted)))
 
-  pub other_unrestricted_second : {b : Bool} → UnrestrictedShown m z s second.unrestricted b → b ≡ false → LeastStep m z 4 s at Nowhere
+  pub other_unrestricted_second : {b : Bool} → UnrestrictedShown m z s second.unrestricted b → b ≡ false → LeastStep m z 4 s at None
   other_unrestricted_second shown other =
       nowhere_by (λ one two a b c a' b' c' i mask f. false≢true (sym other ∙ shown.right two.unrestricted b' ∙ (same_zone_iff _ _).1 (sym f.right_unrestricted)))
 
@@ -193,13 +191,13 @@ module _ {m : List ℕ} {z : Zones} (sound : Sound m z) {s : List ℕ} {at next 
       let low : k < z.linear_len = omega (arith, linear_long sound) in
       record { place = k; low = low; here = sym (formula_told sound k low) })
 
-  pub other_linear : LabelsNone m z s first.linear → LeastStep m z 4 s at Nowhere
+  pub other_linear : LabelsNone m z s first.linear → LeastStep m z 4 s at None
   other_linear none =
       nowhere_by (λ one two a b c a' b' c' i mask f.
       none.is one.linear a c (left_of mask (remove i (sequent m z).linear)) _ f.left_linear
       record { each = each_at (each_left mask (each_remove i each_linear)) })
 
-  pub other_linear_second : LabelsNone m z s second.linear → LeastStep m z 4 s at Nowhere
+  pub other_linear_second : LabelsNone m z s second.linear → LeastStep m z 4 s at None
   other_linear_second none =
       nowhere_by (λ one two a b c a' b' c' i mask f.
       none.is two.linear a' c' (right_of mask (remove i (sequent m z).linear)) _ f.right_linear
@@ -209,7 +207,7 @@ module _ {m : List ℕ} {z : Zones} (sound : Sound m z) {s : List ℕ} {at next 
   module _ {b b' : Bool} (shown : UnrestrictedShown m z s first.unrestricted b) (same : b ≡ true)
       (shown' : UnrestrictedShown m z s second.unrestricted b') (same' : b' ≡ true)
       {n k left right : ℕ} {l r : List ℕ} (ls : LabelsListed m z s first.linear n left l) (rs : LabelsListed m z s second.linear k right r) where
-    pub split_is : {x : Least} → SplitTo m z s left right (take n l) (take k r) x → LeastStep m z 4 s at x
+    pub split_is : {x : Option (ℕ × ℕ)} → SplitTo m z s left right (take n l) (take k r) x → LeastStep m z 4 s at x
     unfolding follow
     split_is {x} found = record {
       taken = found.taken;

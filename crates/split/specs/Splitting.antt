@@ -1,6 +1,6 @@
 -- What finding the least place and mask of a tensor asks and answers. Any bytes may stand in the message; a contract speaks of the formulas and trees that stand at
 -- the places. Assumes nothing: these are definitions.
-use Rattle.std.specs.Prelude.{◌≡◌, Bool, true, ◌&&◌, List, [], ◌∷◌, ◌++◌, map, ℕ, ◌≤◌, ◌<◌, eqb, get_or, length, take}
+use Rattle.std.specs.Prelude.{◌≡◌, Bool, true, ◌&&◌, List, [], ◌∷◌, ◌++◌, map, ℕ, ◌≤◌, ◌<◌, eqb, get_or, length, take, None, Option, Some}
 use Rattle.logic.specs.Formula.{Formula, One, same, spell}
 use Rattle.logic.specs.Parts.{tag_of, left_part, right_part}
 use Rattle.logic.specs.Sequent.{Sequent, ◌﹔◌}
@@ -19,12 +19,7 @@ use Rattle.short.specs.Steps.{formula_at, all_passed}
 use Rattle.short.specs.Making.{Result, made, mismatch}
 use Rattle.short.specs.Shortening.{least}
 use Rattle.step.specs.Taking.{sequent, Taken}
-use Rattle.split.specs.declared.Least.{Least}
-use Rattle.split.specs.declared.Least.TheVariants.{At, Nowhere}
-use Rattle.split.specs.declared.Label.{Label}
-use Rattle.split.specs.declared.Label.TheVariants as label
 use Rattle.split.specs.declared.Labels.{Labels}
-use Rattle.split.specs.declared.Labels.TheVariants as labels
 
 -- the linear formula number x stands at the place; or none of the linear formulas does
 pub record LabelOf (m : List ℕ) (z : Zones) (s : List ℕ) (at x : ℕ) : Type 0 where
@@ -34,9 +29,9 @@ pub record LabelOf (m : List ℕ) (z : Zones) (s : List ℕ) (at x : ℕ) : Type
 pub record LabelNone (m : List ℕ) (z : Zones) (s : List ℕ) (at : ℕ) : Type 0 where
   pub is : (f : Formula) → Stands s at (write_formula f) → (k : ℕ) → k < z.linear_len → told m (get_or z.linear k 0) ≡ f → ⊥
 
-abbrev pub Labelled : List ℕ → Zones → List ℕ → ℕ → Label → Type 0
-Labelled m z s at (label.Of x) = LabelOf m z s at x
-Labelled m z s at label.None = LabelNone m z s at
+abbrev pub Labelled : List ℕ → Zones → List ℕ → ℕ → Option ℕ → Type 0
+Labelled m z s at (Some x) = LabelOf m z s at x
+Labelled m z s at None = LabelNone m z s at
 
 -- none of the first k linear formulas stands there: the loop's invariant
 abbrev pub Unlike : List ℕ → Zones → List ℕ → ℕ → ℕ → Type 0
@@ -88,9 +83,9 @@ pub record Listing (m : List ℕ) (s : List ℕ) (start end n p : ℕ) (numbers 
 pub record LabelsNone (m : List ℕ) (z : Zones) (s : List ℕ) (zone : Span) : Type 0 where
   pub is : (fs : List Formula) → Holds s zone fs → length fs ≤ 31 → (front : List Formula) (final : Formula) → fs ≡ front ++ (final ∷ []) → Linears m z front → ⊥
 
-abbrev pub LabelledTo : List ℕ → Zones → List ℕ → Span → Labels → List ℕ → Type 0
-LabelledTo m z s zone (labels.Listed n last) numbers = LabelsListed m z s zone n last numbers
-LabelledTo m z s zone labels.None numbers = LabelsNone m z s zone
+abbrev pub LabelledTo : List ℕ → Zones → List ℕ → Span → Option Labels → List ℕ → Type 0
+LabelledTo m z s zone (Some x) numbers = LabelsListed m z s zone x.count x.last numbers
+LabelledTo m z s zone None numbers = LabelsNone m z s zone
 
 pub record TensorAt (m : List ℕ) (z : Zones) (i : ℕ) (s : List ℕ) (left right : ℕ) : Type 0 where
   pub sound : Sound m z
@@ -116,16 +111,16 @@ pub record Splitting (m : List ℕ) (z : Zones) (s : List ℕ) (left right : ℕ
   pub right_below : Below (count m) r
 
 -- what is found, as the definition answers
-abbrev pub least_of : Least → Result (ℕ × ℕ)
-least_of (At i mask) = made (i, mask)
-least_of Nowhere = mismatch
+abbrev pub least_of : Option (ℕ × ℕ) → Result (ℕ × ℕ)
+least_of (Some x) = made x
+least_of None = mismatch
 
 -- what is found can be taken
-abbrev pub TakenAt : List ℕ → Zones → ℕ → Least → Type 0
-TakenAt m z rule (At i mask) = Taken m z rule i mask
-TakenAt m z rule Nowhere = Unit {0}
+abbrev pub TakenAt : List ℕ → Zones → ℕ → Option (ℕ × ℕ) → Type 0
+TakenAt m z rule (Some x) = Taken m z rule x.0 x.1
+TakenAt m z rule None = Unit {0}
 
-pub record SplitTo (m : List ℕ) (z : Zones) (s : List ℕ) (left right : ℕ) (l r : List ℕ) (x : Least) : Type 0 where
+pub record SplitTo (m : List ℕ) (z : Zones) (s : List ℕ) (left right : ℕ) (l r : List ℕ) (x : Option (ℕ × ℕ)) : Type 0 where
   pub taken : TakenAt m z 4 x
   pub is : (g h : Formula) → Stands s left (write_formula g) → Stands s right (write_formula h) → (fs : List Formula)
       → least
@@ -136,7 +131,7 @@ pub record SplitTo (m : List ℕ) (z : Zones) (s : List ℕ) (left right : ℕ) 
       ≡ (least_of x, fs)
 
 -- the least step of the rule with that number from the premises that stand at the place
-pub record LeastStep (m : List ℕ) (z : Zones) (rule : ℕ) (s : List ℕ) (at : ℕ) (x : Least) : Type 0 where
+pub record LeastStep (m : List ℕ) (z : Zones) (rule : ℕ) (s : List ℕ) (at : ℕ) (x : Option (ℕ × ℕ)) : Type 0 where
   pub taken : TakenAt m z rule x
   pub is : (r : Rule) (ps : Trees) (fs : List Formula) → rule ≡ rule_number r → Stands s at (write_nodes ps) → NodesFit* ps → premise_count ps ≡ follow r
       → least r (sequent m z) (conclusions ps) fs ≡ (least_of x, fs)

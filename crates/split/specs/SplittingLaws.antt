@@ -1,5 +1,5 @@
 -- Laws of finding the least place and mask of a tensor: one for each way out of `is_tensor_of` and `least_split`. Assumes nothing.
-use Rattle.std.specs.Prelude.{◌≡◌, refl, Bool, true, false, not, ◌&&◌, ℕ, zero, suc, ◌+◌, ◌≤◌, ◌<◌, ◌^◌, ◌/◌, ◌%◌, eqb, ltb, get_or}
+use Rattle.std.specs.Prelude.{◌≡◌, refl, Bool, true, false, not, ◌&&◌, ℕ, zero, suc, ◌+◌, ◌≤◌, ◌<◌, ◌^◌, ◌/◌, ◌%◌, eqb, ltb, get_or, None, Option, Some}
 use Rattle.std.proofs.Common.{sym, ap₂, subst, ◌∙◌, arith, get_or-take}
 use Rattle.std.proofs.Math.Path.{ap}
 use Rattle.std.proofs.lemmas.Bool.{false≢true}
@@ -26,8 +26,6 @@ use Rattle.held.specs.Answers.{Field}
 use Rattle.bags.specs.Reading.{read_as}
 use Rattle.bags.specs.declared.How.{How}
 use Rattle.bags.specs.declared.How.TheVariants.{Spelled}
-use Rattle.shown.specs.declared.Matched.{Matched}
-use Rattle.shown.specs.declared.Matched.TheVariants.{Same, Different}
 use Rattle.shown.specs.Matching.{Comparing, Matches}
 use Rattle.shown.specs.MatchingLaws.{matches_tells}
 use Rattle.zones.specs.declared.Zones.{Zones}
@@ -38,17 +36,15 @@ use Rattle.short.specs.Few.{FewEach, few_none, few_more}
 use Rattle.short.specs.Steps.{all_passed, formula_at, premises_of}
 use Rattle.short.specs.MakingLaws.{few_each_made}
 use Rattle.short.proofs.LeastLaws.{fits_takes, least_is, least_none}
-use Rattle.deal.specs.declared.Dealt.{Dealt}
-use Rattle.deal.specs.declared.Dealt.TheVariants as dealt
 use Rattle.deal.specs.Deal.{Answers}
 use Rattle.deal.specs.Place.{Removable}
 use Rattle.deal.specs.Meant.{Splits, LeastSplit, Says}
 use Rattle.deal.specs.MeantLaws.{length_map, answers_meant}
 use Rattle.step.specs.Taking.{sequent, Taken}
-use Rattle.split.specs.declared.Least.TheVariants.{At, Nowhere}
 use Rattle.split.specs.Splitting.{is_tensor_of, TensorAt, TensorOf, Splitting, SplitTo}
 use Rattle.split.specs.Tensors.{two_premises, fits_two, Tried}
-use Rattle.split.specs.LabelLaws.{linear_low}
+use Rattle.std.specs.Option.{is_some}
+use Rattle.split.specs.LabelLaws.{some_of, none_of, linear_low}
 use Rattle.split.specs.TensorLaws.{tensor_takes, taken_tensor, fits_tensor, tensor_fits}
 
 -- ---- lists
@@ -143,7 +139,7 @@ module _ {m : List ℕ} {z : Zones} (sound : Sound m z) where
   }
 
   -- what dealing the other formulas out by number answers, in formulas
-  dealt_means : {l r : List ℕ} (i : ℕ) → Below (words.count m) l → Below (words.count m) r → (d : Dealt) → Answers (remove i (linears z)) l r d
+  dealt_means : {l r : List ℕ} (i : ℕ) → Below (words.count m) l → Below (words.count m) r → (d : Option ℕ) → Answers (remove i (linears z)) l r d
       → Says (remove i (sequent m z).linear) (map (told m) l) (map (told m) r) d
   dealt_means {l} {r} i bl br d a =
       subst (λ (fs : List Formula). Says fs (map (told m) l) (map (told m) r) d) (sym (removed i))
@@ -232,18 +228,18 @@ module _ {m : List ℕ} {z : Zones} {s : List ℕ} {left right : ℕ} {l r : Lis
     tried_other o e = tried_next (λ g h there there' mask f. true_false (fits_is_tensor g h i mask f) (sym (o.is g h there there') ∙ e))
 
     -- one does, and no mask deals the others out
-    pub tried_nowhere : (d : Dealt) → Answers (remove i (linears z)) l r d → d ≡ dealt.Nowhere → Tried m z s left right l r (i + 1)
+    pub tried_nowhere : (d : Option ℕ) → Answers (remove i (linears z)) l r d → d ≡ None → Tried m z s left right l r (i + 1)
     tried_nowhere d a e =
-        let none = subst (λ (d : Dealt). Answers (remove i (linears z)) l r d) e a in
+        let none = subst (λ (d : Option ℕ). Answers (remove i (linears z)) l r d) e a in
         tried_next
-        (λ g h there there' mask f. dealt_means given.sound i given.left_below given.right_below dealt.Nowhere none mask (fits_splits g h i mask f))
+        (λ g h there there' mask f. dealt_means given.sound i given.left_below given.right_below None none mask (fits_splits g h i mask f))
 
     -- or the least that does is the answer
-    pub tried_found : {b : Bool} → TensorOf m z i s left right b → b ≡ true → (d : Dealt) {mask : ℕ} → Answers (remove i (linears z)) l r d → d ≡ dealt.Mask mask
-        → SplitTo m z s left right l r (At i mask)
+    pub tried_found : {b : Bool} → TensorOf m z i s left right b → b ≡ true → (d : Option ℕ) {mask : ℕ} → Answers (remove i (linears z)) l r d → d ≡ Some mask
+        → SplitTo m z s left right l r (Some (i, mask))
     tried_found o stands d {mask} a e =
         let p : LeastSplit (remove i (sequent m z).linear) (map (told m) l) (map (told m) r) mask =
-        dealt_means given.sound i given.left_below given.right_below (dealt.Mask mask) (subst (λ (d : Dealt). Answers (remove i (linears z)) l r d) e a) in
+        dealt_means given.sound i given.left_below given.right_below (Some mask) (subst (λ (d : Option ℕ). Answers (remove i (linears z)) l r d) e a) in
         record {
           taken = tensor_taken given.sound i mask given.passed low (o.tensor stands) p.spare;
           is = λ g h there there' fs.
@@ -261,7 +257,7 @@ module _ {m : List ℕ} {z : Zones} {s : List ℕ} {left right : ℕ} {l r : Lis
         lesser p g h k false e c = refl
 
   -- past the last place nothing fits
-  pub tried_end : {i : ℕ} → Tried m z s left right l r i → z.linear_len ≤ i → SplitTo m z s left right l r Nowhere
+  pub tried_end : {i : ℕ} → Tried m z s left right l r i → z.linear_len ≤ i → SplitTo m z s left right l r None
   tried_end t past = record {
     taken = tt;
     is = λ g h there there' fs. least_none TensorIntro (sequent m z) (two_premises m z l r g h) fs (λ i mask. go g h there there' i mask (fits_two m z l r g h i mask) refl);
@@ -323,15 +319,15 @@ module _ {m : List ℕ} {z : Zones} {i : ℕ} {s : List ℕ} {left right : ℕ} 
         left_told : left_part (formula_at (sequent m z) i) ≡ told m a
         left_told = ap left_part here_made ∙ left_make _ _ _ 6 (omega arith) (omega arith) ∙ ap (told m) (sym a_is.value)
 
-        module _ {how : How} {r : Matched} (spelled : how ≡ Spelled) (match : Matches m a how s left r) where
-          pub left_differs : r ≡ Different → TensorOf m z i s left right false
+        module _ {how : How} {r : Option ℕ} (spelled : how ≡ Spelled) (match : Matches m a how s left r) where
+          pub left_differs : r ≡ None → TensorOf m z i s left right false
           unfolding read_as
           left_differs e = record {
             is = λ g h there there'. by_never _ (λ k. (matches_tells match there).other_formula e ((tensor_parts (sequent m z) i g h k).1 ∙ ap spell left_told ∙ rw spelled));
             tensor = λ e. absurd (false≢true e);
           }
 
-          left_same : {next : ℕ} → r ≡ Same next → (g : Formula) → Stands s left (write_formula g) → g ≡ spell (left_part (formula_at (sequent m z) i))
+          left_same : {next : ℕ} → r ≡ Some next → (g : Formula) → Stands s left (write_formula g) → g ≡ spell (left_part (formula_at (sequent m z) i))
           unfolding read_as
           left_same e g there = (matches_tells match there).same_formula e ∙ rw spelled (ap spell (sym left_told))
 
@@ -342,22 +338,31 @@ module _ {m : List ℕ} {z : Zones} {i : ℕ} {s : List ℕ} {left right : ℕ} 
         right_told : right_part (formula_at (sequent m z) i) ≡ told m b
         right_told = ap right_part here_made ∙ right_make _ _ _ 6 (omega arith) (omega arith) ∙ ap (told m) (sym b_is.value)
 
-        module _ {how : How} {r : Matched} (spelled : how ≡ Spelled) (match : Matches m b how s right r) where
-          pub right_differs : r ≡ Different → TensorOf m z i s left right false
+        module _ {how : How} {r : Option ℕ} (spelled : how ≡ Spelled) (match : Matches m b how s right r) where
+          pub right_differs : r ≡ None → TensorOf m z i s left right false
           unfolding read_as
           right_differs e = record {
             is = λ g h there there'. by_never _ (λ k. (matches_tells match there').other_formula e ((tensor_parts (sequent m z) i g h k).2 ∙ ap spell right_told ∙ rw spelled));
             tensor = λ e. absurd (false≢true e);
           }
 
-          right_same : {next : ℕ} → r ≡ Same next → (h : Formula) → Stands s right (write_formula h) → h ≡ spell (right_part (formula_at (sequent m z) i))
+          right_same : {next : ℕ} → r ≡ Some next → (h : Formula) → Stands s right (write_formula h) → h ≡ spell (right_part (formula_at (sequent m z) i))
           unfolding read_as
           right_same e h there = (matches_tells match there).same_formula e ∙ rw spelled (ap spell (sym right_told))
 
-      pub both_match : {a b : ℕ} → Field m number 1 a → Field m number 2 b → {how how' : How} → how ≡ Spelled → how' ≡ Spelled → {r r' : Matched}
-          → Matches m a how s left r → Matches m b how' s right r' → {next next' : ℕ} → r ≡ Same next → r' ≡ Same next' → TensorOf m z i s left right true
+      pub both_match : {a b : ℕ} → Field m number 1 a → Field m number 2 b → {how how' : How} → how ≡ Spelled → how' ≡ Spelled → {r r' : Option ℕ}
+          → Matches m a how s left r → Matches m b how' s right r' → {next next' : ℕ} → r ≡ Some next → r' ≡ Some next' → TensorOf m z i s left right true
       both_match a_is b_is p p' match match' e e' = record {
         is = λ g h there there'.
             sym (parts_tensor (sequent m z) i g h (here_tag ∙ six, left_same a_is p match e g there, right_same b_is p' match' e' h there'));
         tensor = λ _. here_tag ∙ six;
       }
+
+      -- the answer by the tests of both parts
+      pub left_tested : {a : ℕ} → Field m number 1 a → {r : Option ℕ} → Matches m a Spelled s left r → is_some r ≡ false → TensorOf m z i s left right false
+      left_tested a_is {r} match e = left_differs a_is refl match (none_of r e)
+
+      pub both_tested : {a b : ℕ} → Field m number 1 a → Field m number 2 b → {r : Option ℕ} → Matches m a Spelled s left r → is_some r ≡ true
+          → (r' : Option ℕ) → Matches m b Spelled s right r' → TensorOf m z i s left right (is_some r')
+      both_tested a_is b_is {r} match e (Some next) match' = both_match a_is b_is refl refl match match' (some_of r e).1 refl
+      both_tested a_is b_is match e None match' = right_differs b_is refl match' refl

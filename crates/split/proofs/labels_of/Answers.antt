@@ -17,8 +17,10 @@ returns-then-n-eq31 c = listing_full c.args.z c.loop-p.invariant c.loop-p-test.t
 pub label_at-requires : goal.label_at-requires
 label_at-requires c = (c.requires.sound, omega (arith, c.loop-p-test.true, c.requires.within.inside))
 
-pub returns-in_default : goal.returns-in_default
-returns-in_default c = listing_other c.args.z c.loop-p.invariant c.loop-p-test.true c.next_formula-next.ensures c.if-next-end.false (labelled_none c.label_at.result c.label_at.ensures c.in_default.is)
+pub returns-in_err-numbers : goal.returns-in_err-numbers
+returns-in_err-numbers c =
+    rw c.from_residual.ensures
+    (listing_other c.args.z c.loop-p.invariant c.loop-p-test.true c.next_formula-next.ensures c.if-next-end.false (labelled_none c.label_at.result c.label_at.ensures c.in_err-numbers.was))
 
 pub offset_bounds-numbers-n : goal.offset_bounds-numbers-n
 offset_bounds-numbers-n c = omega (arith, c.loop-p.invariant.few)
@@ -33,7 +35,7 @@ pub loop-p-smaller : goal.loop-p-smaller
 loop-p-smaller c = omega (arith, c.loop-p-test.true, c.next_formula-next.ensures.further)
 
 pub loop-p-preserved : goal.loop-p-preserved
-loop-p-preserved c = listing_next c.args.z c.loop-p.invariant c.loop-p-test.true c.next_formula-next.ensures c.if-next-end.false c.if-n-eq31.false (labelled_of c.label_at.result c.label_at.ensures c.in-Of.is)
+loop-p-preserved c = listing_next c.args.z c.loop-p.invariant c.loop-p-test.true c.next_formula-next.ensures c.if-next-end.false c.if-n-eq31.false (labelled_of c.label_at.result c.label_at.ensures c.in_ok-numbers.was)
 
 pub returns : goal.returns
 returns c = listing_end c.args.z c.loop-p.invariant c.loop-p-test.false
