@@ -1,6 +1,6 @@
 -- What finding the least place and mask of a node's step asks and answers. Any bytes may stand in the message; a contract speaks of the trees that stand at the places. Assumes nothing: these
 -- are definitions.
-use Rattle.std.specs.Prelude.{◌≡◌, Bool, true, false, List, map, ℕ, ◌≤◌, ◌<◌, length}
+use Rattle.std.specs.Prelude.{◌≡◌, Bool, true, false, List, map, ℕ, ◌≤◌, ◌<◌, length, Option, Some, None}
 use Rattle.logic.specs.Formula.{Formula}
 use Rattle.logic.specs.Sequent.{Sequent}
 use Rattle.logic.specs.Conclusion.{concluded}
@@ -16,8 +16,6 @@ use Rattle.short.specs.Short.{follow}
 use Rattle.short.specs.Steps.{premises_of}
 use Rattle.short.specs.Shortening.{same_sequent, same_sequents, fits, least}
 use Rattle.step.specs.Taking.{sequent, Taken}
-use Rattle.split.specs.declared.Least.{Least}
-use Rattle.split.specs.declared.Least.TheVariants.{At, Nowhere}
 use Rattle.split.specs.Splitting.{least_of, TakenAt, LeastStep}
 
 -- b tells of any tree at the place whether it concludes q, an implication spelled out
@@ -46,11 +44,11 @@ pub record Tried (m : List ℕ) (z : Zones) (rule : ℕ) (s : List ℕ) (at i : 
   pub each : (j : ℕ) → j < i → FitsAt m z rule j s at false
 
 -- the mask has four bytes
-abbrev pub MaskLow : Least → Type 0
-MaskLow (At i mask) = mask < 4294967296
-MaskLow Nowhere = Unit {0}
+abbrev pub MaskLow : Option (ℕ × ℕ) → Type 0
+MaskLow (Some x) = x.1 < 4294967296
+MaskLow None = Unit {0}
 
-pub record PlaceFound (m : List ℕ) (z : Zones) (rule : ℕ) (s : List ℕ) (at : ℕ) (x : Least) : Type 0 where
+pub record PlaceFound (m : List ℕ) (z : Zones) (rule : ℕ) (s : List ℕ) (at : ℕ) (x : Option (ℕ × ℕ)) : Type 0 where
   pub step : LeastStep m z rule s at x
   pub low : MaskLow x
 
@@ -58,7 +56,7 @@ pub record PlaceFound (m : List ℕ) (z : Zones) (rule : ℕ) (s : List ℕ) (at
 pub record NodeInside (len : ℕ) (n : Node) : Type 0 where
   pub next_inside : n.next ≤ len
 
-pub record LeastFor (m : List ℕ) (z : Zones) (s : List ℕ) (n : Node) (x : Least) : Type 0 where
+pub record LeastFor (m : List ℕ) (z : Zones) (s : List ℕ) (n : Node) (x : Option (ℕ × ℕ)) : Type 0 where
   pub taken : TakenAt m z n.rule x
   pub low : MaskLow x
   pub is : (r : Rule) (q : Sequent) (ps : Trees) (fs : List Formula) → NodeIs s n r q ps → NodesFit* ps

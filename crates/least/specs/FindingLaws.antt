@@ -1,5 +1,5 @@
 -- Laws of finding the least place and mask, one for each way out of each function. Assumes nothing.
-use Rattle.std.specs.Prelude.{◌≡◌, Bool, ◌&&◌, ℕ, suc, ◌+◌, ◌≤◌, ◌<◌, ltb, get_or, length}
+use Rattle.std.specs.Prelude.{◌≡◌, Bool, ◌&&◌, ℕ, suc, ◌+◌, ◌≤◌, ◌<◌, ltb, get_or, length, Option, Some, None}
 use Rattle.std.proofs.Math.Path.{refl, sym, ap}
 use Rattle.std.proofs.Common.{◌∙◌, arith, ltb-true, ltb-false, le-ltb}
 use Rattle.std.proofs.Math.Bool.{true, false}
@@ -78,8 +78,6 @@ use Rattle.step.specs.TakingLaws.{
   premised,
 }
 use Rattle.shown.specs.Matching.{Shown}
-use Rattle.split.specs.declared.Least.{Least}
-use Rattle.split.specs.declared.Least.TheVariants.{At, Nowhere}
 use Rattle.split.specs.Splitting.{LeastStep}
 use Rattle.least.specs.Finding.{Shows, Follows, FitsAt, Placing, Tried, MaskLow, PlaceFound, LeastFor}
 
@@ -350,7 +348,7 @@ module _ {m : List ℕ} {z : Zones} {rule : ℕ} {s : List ℕ} {at : ℕ} where
     no_tensor_maskless : (r : Rule) (ps : Trees) (j mask : ℕ) → rule ≡ rule_number r → fits r (sequent m z) (conclusions ps) j mask ≡ fits r (sequent m z) (conclusions ps) j 0
     no_tensor_maskless r ps j mask e = fits_maskless r (λ k. p.no_tensor (e ∙ k)) (sequent m z) (conclusions ps) j mask
 
-    pub place_found : {b : Bool} → FitsAt m z rule i s at b → b ≡ true → PlaceFound m z rule s at (At i 0)
+    pub place_found : {b : Bool} → FitsAt m z rule i s at b → b ≡ true → PlaceFound m z rule s at (Some (i, 0))
     place_found {b} f e = record { step = record { taken = f.taken e; is = λ r ps fs k st fit c. least_is r (sequent m z) (conclusions ps) i 0 fs (it r ps k st fit c) }; low = omega arith }
       where
         it : (r : Rule) (ps : Trees) → rule ≡ rule_number r → Stands s at (write_nodes ps) → NodesFit* ps → premise_count ps ≡ follow r
@@ -361,7 +359,7 @@ module _ {m : List ℕ} {z : Zones} {rule : ℕ} {s : List ℕ} {at : ℕ} where
           no_lesser = λ mask l. absurd (omega arith);
         }
 
-    pub place_nowhere : {n : ℕ} → n ≡ length (linears z) + length (unrestricteds z) → n ≤ i → PlaceFound m z rule s at Nowhere
+    pub place_nowhere : {n : ℕ} → n ≡ length (linears z) + length (unrestricteds z) → n ≤ i → PlaceFound m z rule s at None
     place_nowhere {n} e l = record { step = record { taken = tt; is = λ r ps fs k st fit c. least_none r (sequent m z) (conclusions ps) fs (none r ps k st fit c) }; low = tt }
       where
         counted_zones : count (sequent m z) ≡ n
@@ -411,9 +409,9 @@ module _ {m : List ℕ} {z : Zones} (x : Sound m z) (r : Rule) (ps : Trees) (fit
       )
 
 -- a tensor's mask has at most 30 bits
-pub tensor_low : {m : List ℕ} {z : Zones} {s : List ℕ} {at : ℕ} (x : Least) → LeastStep m z 4 s at x → MaskLow x
-tensor_low Nowhere l = tt
-tensor_low (At i mask) l = omega (arith, taken_mask l.taken refl)
+pub tensor_low : {m : List ℕ} {z : Zones} {s : List ℕ} {at : ℕ} (x : Option (ℕ × ℕ)) → LeastStep m z 4 s at x → MaskLow x
+tensor_low None l = tt
+tensor_low (Some (i, mask)) l = omega (arith, taken_mask l.taken refl)
 
 pub low_rule : {rule w : ℕ} → w ≡ word rule 0 0 → rule ≤ 14 → rule_of w < 15
 low_rule {rule} {w} e low = rw (e, rule_of_word rule 0 0 (omega arith) (omega arith)) (omega arith)
@@ -428,7 +426,7 @@ word_counts {rule} {w} {follows} r e low word_is count_is =
 
 module _ {m : List ℕ} {z : Zones} {s : List ℕ} {n : Node} where
   nowhere : ((r : Rule) (q : Sequent) (ps : Trees) → NodeIs s n r q ps → NodesFit* ps → (i mask : ℕ) → fits r (sequent m z) (conclusions ps) i mask ≡ true → ⊥)
-      → LeastFor m z s n Nowhere
+      → LeastFor m z s n None
   nowhere h = record {
     taken = tt;
     low = tt;
@@ -436,24 +434,24 @@ module _ {m : List ℕ} {z : Zones} {s : List ℕ} {n : Node} where
   }
 
   -- a rule above 14 has no short form
-  pub step_high : Sound m z → 14 < n.rule → LeastFor m z s n Nowhere
+  pub step_high : Sound m z → 14 < n.rule → LeastFor m z s n None
   step_high x h = nowhere (λ r q ps k fit i mask e. omega (arith, k.rule_is, fits_low x r ps fit i mask e))
 
   module _ {rule w follows : ℕ} (rule_is : rule ≡ n.rule) (low : rule ≤ 14) (word_is : w ≡ word rule 0 0) (count_is : follows ≡ get_or premise_counts (rule_of w) 0) where
     -- the node has another number of premises than follow its rule
-    pub step_other : Sound m z → (n.premises ≡ follows → ⊥) → LeastFor m z s n Nowhere
+    pub step_other : Sound m z → (n.premises ≡ follows → ⊥) → LeastFor m z s n None
     step_other x h =
         nowhere (λ r q ps k fit i mask e. h (k.count_is ∙ fits_follow x r ps fit i mask e ∙ sym (word_counts r (rule_is ∙ k.rule_is) low word_is count_is)))
 
-    step_found : n.premises ≡ follows → {x : Least} → LeastStep m z rule s n.next x → MaskLow x → LeastFor m z s n x
+    step_found : n.premises ≡ follows → {x : Option (ℕ × ℕ)} → LeastStep m z rule s n.next x → MaskLow x → LeastFor m z s n x
     step_found h {x} l small = record {
       taken = rw rule_is at l.taken;
       low = small;
       is = λ r q ps fs k fit. l.is r ps fs (rule_is ∙ k.rule_is) k.premises_are fit (sym k.count_is ∙ h ∙ word_counts r (rule_is ∙ k.rule_is) low word_is count_is);
     }
 
-    pub step_tensor : n.premises ≡ follows → rule ≡ 4 → {x : Least} → LeastStep m z 4 s n.next x → LeastFor m z s n x
+    pub step_tensor : n.premises ≡ follows → rule ≡ 4 → {x : Option (ℕ × ℕ)} → LeastStep m z 4 s n.next x → LeastFor m z s n x
     step_tensor h e {x} l = step_found h (rw e l) (tensor_low x l)
 
-    pub step_placed : n.premises ≡ follows → {x : Least} → PlaceFound m z rule s n.next x → LeastFor m z s n x
+    pub step_placed : n.premises ≡ follows → {x : Option (ℕ × ℕ)} → PlaceFound m z rule s n.next x → LeastFor m z s n x
     step_placed h p = step_found h p.step p.low

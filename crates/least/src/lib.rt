@@ -8,19 +8,13 @@ ghost use Rattle.least.specs.Finding.{Follows, FitsAt, Placing, PlaceFound, Node
 
 use expand::steps::{first_premise, premises, second_premise};
 use shown::is_shown;
-use split::{Least, least_tensor};
+use split::least_tensor;
 use step::{TENSOR_INTRO, is_crowded, may_take, node_word};
 use tree::{Node, after_tree};
 use zones::Zones;
 
 // The last rule by number that has a short form.
 const LAST_RULE: u8 = 14;
-
-fn wide(b: u8) -> usize
-    ensures { result ≡ b }
-{
-    b as usize
-}
 
 // Whether the tree's premises, which stand at `at`, conclude what the step at place i makes, by a rule other than TensorIntro.
 fn follows(mem: &[u16], z: Zones, rule: usize, i: usize, s: &[u8], at: usize) -> bool
@@ -58,33 +52,29 @@ fn fits_at(mem: &[u16], z: Zones, rule: usize, i: usize, s: &[u8], at: usize) ->
 }
 
 // The least place at which it fits, of a rule other than TensorIntro.
-fn least_place(mem: &[u16], z: Zones, rule: usize, s: &[u8], at: usize) -> Least
+fn least_place(mem: &[u16], z: Zones, rule: usize, s: &[u8], at: usize) -> Option<(usize, usize)>
     requires { Placing mem.now z rule s.now at }
     ensures { PlaceFound mem.now z rule s.now at result }
 {
-    let n = z.count();
-    let mut i = 0;
-    while i < n {
-        let k = i;
-        i += 1;
-        if fits_at(mem, z, rule, k, s, at) {
-            return Least::At(k, 0);
+    for i in 0..z.count() {
+        if fits_at(mem, z, rule, i, s, at) {
+            return Some((i, 0));
         }
     }
-    Least::Nowhere
+    None
 }
 
 // The least place, then the least mask, of the node's step from its premises to the sequent z.
-pub fn least_step(mem: &[u16], z: Zones, s: &[u8], node: Node) -> Least
+pub fn least_step(mem: &[u16], z: Zones, s: &[u8], node: Node) -> Option<(usize, usize)>
     requires { Sound mem.now z × NodeInside (length s.now) node }
     ensures { LeastFor mem.now z s.now node result }
 {
     if LAST_RULE < node.rule {
-        return Least::Nowhere;
+        return None;
     }
-    let rule = wide(node.rule);
+    let rule = usize::from(node.rule);
     if node.premises != premises(node_word(rule, 0, 0)) {
-        return Least::Nowhere;
+        return None;
     }
     if rule == TENSOR_INTRO {
         return least_tensor(mem, z, s, node.next);
