@@ -1,4 +1,5 @@
 -- Steps of entering the formulas of a zone and of negating listed formulas: each loop's invariant, with a lemma for its start, its turn and its end. Assumes nothing.
+use Rattle.std.specs.Prelude.{None, Some}
 use mathlib.Core.Path.{◌≡◌, refl, sym, ap, ◌∙◌}
 use mathlib.Core.Logic.{◌⊎◌, inl, inr, ⊎_elim}
 use mathlib.Core.List.{List, [], ◌∷◌, ◌++◌, map, append_assoc}
@@ -24,7 +25,6 @@ use Rattle.held.specs.Turn.{Entered, Refused}
 use Rattle.held.specs.OrderLaws.{le_or_lt}
 use Rattle.enter.specs.Standing.{Enterable, EnteredFrom}
 use Rattle.enter.specs.Lists.{Names, Zone, Zoned, OverAll, ListedAll, Negatable, NegatedAll}
-use Rattle.enter.specs.declared.Entry.TheVariants as entry
 
 -- ---- lists entered one after another
 
@@ -150,12 +150,12 @@ module _ (m₀ s : List ℕ) (at end : ℕ) (numbers₀ : List ℕ) (from : ℕ)
             wide = omega (arith, next_size, zone_size, z.fits.zone_short, w.started);
           }
 
-      pub listing_over : (m' : List ℕ) → EnteredFrom m s p entry.Full m' → OverAll m₀ z.formulas m'
+      pub listing_over : (m' : List ℕ) → EnteredFrom m s p None m' → OverAll m₀ z.formulas m'
       listing_over m' x =
           let o = x next_formula next_stands in
           record { wf = o.wf; grew = extends_trans w.grew o.grew; over = enter_all_over z.formulas n (view m₀) (listing_more_left h) (rw (← w.all) o.over) }
 
-      module _ (i next : ℕ) (m' : List ℕ) (x : EnteredFrom m s p (entry.At i next) m') where
+      module _ (i next : ℕ) (m' : List ℕ) (x : EnteredFrom m s p (Some (i, next)) m') where
         next_place : next ≡ p + size next_formula
         next_place = (x next_formula next_stands).0
 

@@ -1,4 +1,5 @@
 -- Steps of entering the formula that stands at a place: a leaf, a formula of one part, a formula of two. Assumes nothing.
+use Rattle.std.specs.Prelude.{None, Option, Some}
 use mathlib.Core.Path.{◌≡◌, sym, ap, ◌∙◌}
 use mathlib.Core.Logic.{⊎_elim}
 use mathlib.Core.List.{List}
@@ -22,8 +23,6 @@ use Rattle.held.specs.WholeLaws.{Ahead, unit_ahead, name_ahead, pair_ahead, part
 use Rattle.enter.specs.Standing.{PartAt, PairAt, SignOf, StoredAs, Enterable, EnteredFrom}
 use Rattle.enter.specs.declared.Sign.{Sign}
 use Rattle.enter.specs.declared.Sign.TheVariants as sign
-use Rattle.enter.specs.declared.Entry.{Entry}
-use Rattle.enter.specs.declared.Entry.TheVariants as entry
 
 -- the whole, where it may stand next
 stored_whole : (m m₁ : List ℕ) (t a b : ℕ) (f : Formula) (i : ℕ) (m₂ : List ℕ) → Extends m m₁ → enter f (view m) ≡ add f (view m₁) → node t a b (view m₁) ≡ f → Stored m₁ (node t a b (view m₁)) i m₂ → Entered m f i m₂
@@ -46,9 +45,9 @@ module _ (m s : List ℕ) (at : ℕ) (z : Enterable m s at) where
     pub leaf_next : Next m t n 0
     leaf_next = (leaf_ahead z.formula z.stands).next
 
-    pub leaf_close : (r : Entry) (m' : List ℕ) → StoredAs m t n 0 next r m' → EnteredFrom m s at r m'
-    leaf_close (entry.At i p) m' x = λ f stands. (x.0 ∙ (g f stands).after, stored_whole m m t n 0 f i m' (extends_refl m) (leaf_all f stands) (leaf_ahead f stands).here x.1)
-    leaf_close entry.Full m' x = λ f stands. full_whole m m t n 0 f m' z.wf (extends_refl m) (leaf_all f stands) (leaf_ahead f stands).here x
+    pub leaf_close : (r : Option (ℕ × ℕ)) (m' : List ℕ) → StoredAs m t n 0 next r m' → EnteredFrom m s at r m'
+    leaf_close (Some (i, p)) m' x = λ f stands. (x.0 ∙ (g f stands).after, stored_whole m m t n 0 f i m' (extends_refl m) (leaf_all f stands) (leaf_ahead f stands).here x.1)
+    leaf_close None m' x = λ f stands. full_whole m m t n 0 f m' z.wf (extends_refl m) (leaf_all f stands) (leaf_ahead f stands).here x
 
   module _ (t : ℕ) (g : SignOf s at (sign.One t)) where
     abbrev whole_part : PartAt s at t z.formula
@@ -68,10 +67,10 @@ module _ (m s : List ℕ) (at : ℕ) (z : Enterable m s at) where
     one_all : (f : Formula) (u : PartAt s at t f) → enter f (view m) ≡ add f (enter u.part (view m))
     one_all f u = enter_part t u.part f (view m) u.low u.high u.made
 
-    pub one_full : (m₁ : List ℕ) → EnteredFrom m s (at + 1) entry.Full m₁ → EnteredFrom m s at entry.Full m₁
+    pub one_full : (m₁ : List ℕ) → EnteredFrom m s (at + 1) None m₁ → EnteredFrom m s at None m₁
     one_full m₁ x = λ f stands. let u = g f stands in part_over m m₁ u.part f (enter u.part (view m)) (x u.part u.stands) (one_all f u) (omega arith)
 
-    module _ (a next : ℕ) (m₁ : List ℕ) (x : EnteredFrom m s (at + 1) (entry.At a next) m₁) where
+    module _ (a next : ℕ) (m₁ : List ℕ) (x : EnteredFrom m s (at + 1) (Some (a, next)) m₁) where
       one_ahead : (f : Formula) → PartAt s at t f → height f ≤ 64 → size f < 65536 → Ahead m₁ t a 0 f
       one_ahead f u tall wide = let e = (x u.part u.stands).1 in part_ahead m₁ t a u.part f e.wf e.low e.here u.low u.high u.made tall wide
 
@@ -84,12 +83,12 @@ module _ (m s : List ℕ) (at : ℕ) (z : Enterable m s at) where
       one_whole : (f : Formula) (u : PartAt s at t f) → enter f (view m) ≡ add f (view m₁)
       one_whole f u = one_all f u ∙ ap (add f) (sym (x u.part u.stands).1.all)
 
-      pub one_close : (r : Entry) (m₂ : List ℕ) → StoredAs m₁ t a 0 next r m₂ → EnteredFrom m s at r m₂
-      one_close (entry.At i p) m₂ y = λ f stands.
+      pub one_close : (r : Option (ℕ × ℕ)) (m₂ : List ℕ) → StoredAs m₁ t a 0 next r m₂ → EnteredFrom m s at r m₂
+      one_close (Some (i, p)) m₂ y = λ f stands.
           let u = g f stands in
           let w = x u.part u.stands in
           (omega (arith, y.0, w.0, u.wide), stored_whole m m₁ t a 0 f i m₂ w.1.grew (one_whole f u) (one_node f u) y.1)
-      one_close entry.Full m₂ y = λ f stands.
+      one_close None m₂ y = λ f stands.
           let u = g f stands in
           let w = (x u.part u.stands).1 in
           full_whole m m₁ t a 0 f m₂ w.wf w.grew (one_whole f u) (one_node f u) y
@@ -107,13 +106,13 @@ module _ (m s : List ℕ) (at : ℕ) (z : Enterable m s at) where
     two_all : (f : Formula) (u : PairAt s at t f) → enter f (view m) ≡ add f (enter u.right (enter u.left (view m)))
     two_all f u = enter_pair t u.left u.right f (view m) u.low u.high u.made
 
-    pub two_full : (m₁ : List ℕ) → EnteredFrom m s (at + 1) entry.Full m₁ → EnteredFrom m s at entry.Full m₁
+    pub two_full : (m₁ : List ℕ) → EnteredFrom m s (at + 1) None m₁ → EnteredFrom m s at None m₁
     two_full m₁ x = λ f stands.
         let u = g f stands in
         let fs = enter u.left (view m) in
         part_over m m₁ u.left f (enter u.right fs) (x u.left u.first) (two_all f u) (enter_longer u.right fs fs (omega arith))
 
-    module _ (a second : ℕ) (m₁ : List ℕ) (x : EnteredFrom m s (at + 1) (entry.At a second) m₁) where
+    module _ (a second : ℕ) (m₁ : List ℕ) (x : EnteredFrom m s (at + 1) (Some (a, second)) m₁) where
       -- where the second part stands
       two_second : (f : Formula) (u : PairAt s at t f) → Stands s second u.right
       two_second f u = rw (x u.left u.first).0 u.second
@@ -132,12 +131,12 @@ module _ (m s : List ℕ) (at : ℕ) (z : Enterable m s at) where
       pub two_further : (at < second) × (second < length s)
       two_further = let u = whole_pair in (omega (arith, (x u.left u.first).0), starts_inside s second u.right (two_second z.formula u))
 
-      pub two_full_2 : (m₂ : List ℕ) → EnteredFrom m₁ s second entry.Full m₂ → EnteredFrom m s at entry.Full m₂
+      pub two_full_2 : (m₂ : List ℕ) → EnteredFrom m₁ s second None m₂ → EnteredFrom m s at None m₂
       two_full_2 m₂ y = λ f stands.
           let u = g f stands in
           second_over m m₁ m₂ u.left u.right f a (x u.left u.first).1 (y u.right (two_second f u)) (two_all f u)
 
-      module _ (b next : ℕ) (m₂ : List ℕ) (y : EnteredFrom m₁ s second (entry.At b next) m₂) where
+      module _ (b next : ℕ) (m₂ : List ℕ) (y : EnteredFrom m₁ s second (Some (b, next)) m₂) where
         module _ (f : Formula) (u : PairAt s at t f) where
           first_entered : Entered m u.left a m₁
           first_entered = (x u.left u.first).1
@@ -166,11 +165,11 @@ module _ (m s : List ℕ) (at : ℕ) (z : Enterable m s at) where
             let u = whole_pair in
             (pair_ahead m₂ t a b u.left u.right f (second_entered f u).wf (lt_of_lt_of_le (first_entered f u).low (second_entered f u).grew.more) (second_entered f u).low (first_kept f u) (second_entered f u).here u.low u.high u.made z.tall z.wide).next
 
-        pub two_close : (r : Entry) (m₃ : List ℕ) → StoredAs m₂ t a b next r m₃ → EnteredFrom m s at r m₃
-        two_close (entry.At i p) m₃ w = λ f stands.
+        pub two_close : (r : Option (ℕ × ℕ)) (m₃ : List ℕ) → StoredAs m₂ t a b next r m₃ → EnteredFrom m s at r m₃
+        two_close (Some (i, p)) m₃ w = λ f stands.
             let u = g f stands in
             (w.0 ∙ two_place f u, stored_whole m m₂ t a b f i m₃ (both_grew f u) (two_whole f u) (two_node f u) w.1)
-        two_close entry.Full m₃ w = λ f stands.
+        two_close None m₃ w = λ f stands.
             let u = g f stands in
             full_whole m m₂ t a b f m₃ (second_entered f u).wf (both_grew f u) (two_whole f u) (two_node f u) w
 
@@ -186,9 +185,9 @@ module _ (s : List ℕ) (at : ℕ) (r : Sign) (y : SignOf s at r) where
   pub as_two : (t : ℕ) → r ≡ sign.Two t → SignOf s at (sign.Two t)
   as_two t e = rw e at y
 
-module _ (m s : List ℕ) (at : ℕ) (r : Entry) (m' : List ℕ) (y : EnteredFrom m s at r m') where
-  pub entered_at : (i p : ℕ) → r ≡ entry.At i p → EnteredFrom m s at (entry.At i p) m'
+module _ (m s : List ℕ) (at : ℕ) (r : Option (ℕ × ℕ)) (m' : List ℕ) (y : EnteredFrom m s at r m') where
+  pub entered_at : (i p : ℕ) → r ≡ Some (i, p) → EnteredFrom m s at (Some (i, p)) m'
   entered_at i p e = rw e at y
 
-  pub entered_full : r ≡ entry.Full → EnteredFrom m s at entry.Full m'
+  pub entered_full : r ≡ None → EnteredFrom m s at None m'
   entered_full e = rw e at y

@@ -1,5 +1,5 @@
 -- Lists of held formulas, by number, and what entering a zone's formulas and negating listed ones answer. Assumes nothing: these are definitions.
-use Rattle.std.specs.Prelude.{◌≡◌, Bool, true, false, List, [], map, ℕ, ◌+◌, ◌≤◌, ◌<◌, get_or, length}
+use Rattle.std.specs.Prelude.{◌≡◌, List, [], map, ℕ, ◌+◌, ◌≤◌, ◌<◌, get_or, length, None, Option, Some}
 use Rattle.std.proofs.Math.Seq.{slice}
 use Rattle.logic.specs.Formula.{Formula, One, negate}
 use Rattle.logic.specs.Held.{enter_all}
@@ -7,8 +7,6 @@ use Rattle.wire.specs.Write.{write_formulas}
 use Rattle.wire.specs.Read.{got, read_all}
 use Rattle.wire.specs.Fits.{ZoneFits}
 use Rattle.held.specs.Words.{count, most, view, told, named, Wf, Extends}
-use Rattle.enter.specs.declared.lists.Listed.{Listed}
-use Rattle.enter.specs.declared.lists.Listed.TheVariants as listed
 
 -- the n numbers from place `from` on are those of the first n formulas of fs
 pub record Names (m numbers : List ℕ) (from n : ℕ) (fs : List Formula) : Type 0 where
@@ -50,9 +48,9 @@ pub record ListedAll (m : List ℕ) (fs : List Formula) (numbers : List ℕ) (fr
   pub long : length numbers' ≡ length numbers
   pub kept : (j : ℕ) → j < from → get_or numbers' j 0 ≡ get_or numbers j 0
 
-abbrev pub ListedFrom : List ℕ → List ℕ → ℕ → ℕ → List ℕ → ℕ → Listed → List ℕ → List ℕ → Type 0
-ListedFrom m s at end numbers from (listed.Count n) m' numbers' = (fs : List Formula) → read_all (slice at end s) ≡ got fs [] → ListedAll m fs numbers from n m' numbers'
-ListedFrom m s at end numbers from listed.Full m' numbers' = (fs : List Formula) → read_all (slice at end s) ≡ got fs [] → OverAll m fs m'
+abbrev pub ListedFrom : List ℕ → List ℕ → ℕ → ℕ → List ℕ → ℕ → Option ℕ → List ℕ → List ℕ → Type 0
+ListedFrom m s at end numbers from (Some n) m' numbers' = (fs : List Formula) → read_all (slice at end s) ≡ got fs [] → ListedAll m fs numbers from n m' numbers'
+ListedFrom m s at end numbers from None m' numbers' = (fs : List Formula) → read_all (slice at end s) ≡ got fs [] → OverAll m fs m'
 
 -- the first n numbers are of held formulas
 pub record Negatable (m numbers : List ℕ) (n : ℕ) : Type 0 where
@@ -67,6 +65,6 @@ pub record NegatedAll (m numbers : List ℕ) (n : ℕ) (m' numbers' : List ℕ) 
   pub long : length numbers' ≡ length numbers
   pub kept : (j : ℕ) → n ≤ j → get_or numbers' j 0 ≡ get_or numbers j 0
 
-abbrev pub NegatedFrom : List ℕ → List ℕ → ℕ → Bool → List ℕ → List ℕ → Type 0
-NegatedFrom m numbers n true m' numbers' = NegatedAll m numbers n m' numbers'
-NegatedFrom m numbers n false m' numbers' = OverAll m (map negate (named m numbers n)) m'
+abbrev pub NegatedFrom : List ℕ → List ℕ → ℕ → Option (Unit {0}) → List ℕ → List ℕ → Type 0
+NegatedFrom m numbers n (Some _) m' numbers' = NegatedAll m numbers n m' numbers'
+NegatedFrom m numbers n None m' numbers' = OverAll m (map negate (named m numbers n)) m'

@@ -1,5 +1,5 @@
 -- A formula that stands in bytes, by its sign and its parts; and what entering it answers. Assumes nothing: these are definitions.
-use Rattle.std.specs.Prelude.{◌≡◌, ◌⊎◌, List, ℕ, ◌+◌, ◌≤◌, ◌<◌}
+use Rattle.std.specs.Prelude.{◌≡◌, ◌⊎◌, List, ℕ, ◌+◌, ◌≤◌, ◌<◌, None, Option, Some}
 use Rattle.logic.specs.Formula.{Formula, height, size}
 use Rattle.formula.specs.Signs.{Stands}
 use Rattle.logic.specs.Parts.{make}
@@ -9,8 +9,6 @@ use Rattle.held.specs.Answers.{Stored, NoRoom}
 use Rattle.held.specs.Turn.{Entered, Over}
 use Rattle.enter.specs.declared.Sign.{Sign}
 use Rattle.enter.specs.declared.Sign.TheVariants as sign
-use Rattle.enter.specs.declared.Entry.{Entry}
-use Rattle.enter.specs.declared.Entry.TheVariants as entry
 
 -- the bytes of a formula stand there
 pub record Standing (s : List ℕ) (at : ℕ) : Type 0 where
@@ -50,9 +48,9 @@ SignOf s at (sign.One t) = (f : Formula) → Stands s at f → PartAt s at t f
 SignOf s at (sign.Two t) = (f : Formula) → Stands s at f → PairAt s at t f
 
 -- the formula is held, or there is no room for it
-abbrev pub StoredAs : List ℕ → ℕ → ℕ → ℕ → ℕ → Entry → List ℕ → Type 0
-StoredAs m t a b next (entry.At i p) m' = (p ≡ next) × Stored m (node t a b (view m)) i m'
-StoredAs m t a b next entry.Full m' = NoRoom m (node t a b (view m)) m'
+abbrev pub StoredAs : List ℕ → ℕ → ℕ → ℕ → ℕ → Option (ℕ × ℕ) → List ℕ → Type 0
+StoredAs m t a b next (Some (i, p)) m' = (p ≡ next) × Stored m (node t a b (view m)) i m'
+StoredAs m t a b next None m' = NoRoom m (node t a b (view m)) m'
 
 -- a formula stands there that is no higher and no longer than a held one may be
 pub record Enterable (m s : List ℕ) (at : ℕ) : Type 0 where
@@ -63,6 +61,6 @@ pub record Enterable (m s : List ℕ) (at : ℕ) : Type 0 where
   pub wide : size formula < 65536
 
 -- whatever formula stands there is entered with its parts, and p is the place after it; or there is no room for them, and some may have been entered
-abbrev pub EnteredFrom : List ℕ → List ℕ → ℕ → Entry → List ℕ → Type 0
-EnteredFrom m s at (entry.At i p) m' = (f : Formula) → Stands s at f → (p ≡ at + size f) × Entered m f i m'
-EnteredFrom m s at entry.Full m' = (f : Formula) → Stands s at f → Over m f m'
+abbrev pub EnteredFrom : List ℕ → List ℕ → ℕ → Option (ℕ × ℕ) → List ℕ → Type 0
+EnteredFrom m s at (Some (i, p)) m' = (f : Formula) → Stands s at f → (p ≡ at + size f) × Entered m f i m'
+EnteredFrom m s at None m' = (f : Formula) → Stands s at f → Over m f m'

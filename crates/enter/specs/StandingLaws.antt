@@ -1,5 +1,5 @@
 -- Laws of a formula that stands in bytes: its sign by the tag's form, and its parts entered one after another. Assumes nothing.
-use Rattle.std.specs.Prelude.{◌≡◌, refl, List, ℕ, ◌+◌, ◌*◌, ◌≤◌, ◌<◌, length, get_or}
+use Rattle.std.specs.Prelude.{◌≡◌, refl, List, ℕ, ◌+◌, ◌*◌, ◌≤◌, ◌<◌, length, get_or, None, Option, Some}
 use Rattle.std.proofs.Common.{sym, ap, ◌∙◌, inl, inr, arith}
 use Rattle.logic.specs.Formula.{Formula}
 use Rattle.wire.specs.Read.{Sign, unit, named, binary, unary, signs}
@@ -10,8 +10,6 @@ use Rattle.formula.specs.SignsLaws.{all_at, shaped}
 use Rattle.formula.specs.declared.Form.TheVariants.{Unit, Named, Binary, Unary, Unknown}
 use Rattle.logic.specs.Parts as parts
 use Rattle.held.specs.Answers.{Stored, NoRoom, AddedTo}
-use Rattle.held.specs.declared.Added.{Added}
-use Rattle.held.specs.declared.Added.TheVariants as added
 use Rattle.enter.specs.Standing.{SignOf}
 use Rattle.enter.specs.declared.Sign.TheVariants as sign
 
@@ -91,8 +89,8 @@ name_inside s at f stands e = (shaped s at f stands e).inside
 
 -- ---- the cases of an answer
 
-pub added_at : (m : List ℕ) (f : Formula) (r : Added) (i : ℕ) (m' : List ℕ) → AddedTo m f r m' → r ≡ added.At i → Stored m f i m'
+pub added_at : (m : List ℕ) (f : Formula) (r : Option ℕ) (i : ℕ) (m' : List ℕ) → AddedTo m f r m' → r ≡ Some i → Stored m f i m'
 added_at m f r i m' x e = rw e at x
 
-pub added_full : (m : List ℕ) (f : Formula) (r : Added) (m' : List ℕ) → AddedTo m f r m' → r ≡ added.Full → NoRoom m f m'
+pub added_full : (m : List ℕ) (f : Formula) (r : Option ℕ) (m' : List ℕ) → AddedTo m f r m' → r ≡ None → NoRoom m f m'
 added_full m f r m' x e = rw e at x

@@ -2,18 +2,10 @@
 ghost use Rattle.std.specs.Prelude.{◌≡◌};
 ghost use Rattle.enter.specs.Lists.{Zoned, ListedFrom, Negatable, NegatedFrom};
 
-use super::{Entry, enter_formula};
-use held::Added;
+use super::enter_formula;
 use held::turn::negate_held;
 
-// How many formulas were listed; or no room for them.
-#[derive(Clone, Copy)]
-pub enum Listed {
-    Count(usize),
-    Full,
-}
-
-// Enters the formulas that stand from `at` to `end`, and lists their numbers from place `from` on.
+// Enters the formulas that stand from `at` to `end`, and lists their numbers from place `from` on: how many they are; or there is no room for them.
 pub fn enter_formulas(
     mem: &mut [u16],
     s: &[u8],
@@ -21,36 +13,29 @@ pub fn enter_formulas(
     end: usize,
     numbers: &mut [u16],
     from: usize,
-) -> Listed
+) -> Option<usize>
     requires { Zoned mem.old s.now at end numbers.old from }
     ensures { ListedFrom mem.old s.now at end numbers.old from result mem.new numbers.new }
 {
     let mut p = at;
     let mut n = 0;
     while p < end {
-        let Entry::At(i, next) = enter_formula(mem, s, p) else {
-            return Listed::Full;
-        };
+        let (i, next) = enter_formula(mem, s, p)?;
         numbers[from + n] = i as u16;
         n += 1;
         p = next;
     }
-    Listed::Count(n)
+    Some(n)
 }
 
-// Enters the negations of the first n formulas that are listed, and lists them in their places. False where there is no room for them.
-pub fn negate_listed(mem: &mut [u16], numbers: &mut [u16], n: usize) -> bool
+// Enters the negations of the first n formulas that are listed, and lists them in their places; or there is no room for them.
+pub fn negate_listed(mem: &mut [u16], numbers: &mut [u16], n: usize) -> Option<()>
     requires { Negatable mem.old numbers.old n }
     ensures { NegatedFrom mem.old numbers.old n result mem.new numbers.new }
 {
-    let mut k = 0;
-    while k < n {
-        let x = numbers[k] as usize;
-        let Added::At(i) = negate_held(mem, x) else {
-            return false;
-        };
+    for k in 0..n {
+        let i = negate_held(mem, numbers[k] as usize)?;
         numbers[k] = i as u16;
-        k += 1;
     }
-    true
+    Some(())
 }

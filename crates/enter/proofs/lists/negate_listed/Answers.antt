@@ -1,26 +1,20 @@
-use Rattle.enter.proofs.ListSteps.{turning_starts, turning_low, turning_over, turning_fits, turning_more, turning_ends}
+use Rattle.std.proofs.Common.{rules}
+use Rattle.enter.proofs.ListSteps.{turning_starts, turning_low, turning_over, turning_more, turning_ends}
 use Rattle.held.proofs.TurnSteps.{entered_at, entered_full}
 use mathlib.Core.Path.{refl}
-use native.Mathlib.Omega.{arith}
 use Rattle.enter.proofs.lists.negate_listed.Goals as goal
 
 pub loop-k-init : goal.loop-k-init
 loop-k-init c = turning_starts _ _ _ c.requires
 
-pub overflow_cast-x : goal.overflow_cast-x
-overflow_cast-x c = omega (arith, c.type_inv.numbers c.loop-k.k)
-
 pub negate_held-requires : goal.negate_held-requires
 negate_held-requires c = (c.loop-k.invariant.wf, turning_low _ _ _ _ _ c.loop-k.k _ c.loop-k.invariant c.loop-k-test.true refl)
 
-pub returns-in_default : goal.returns-in_default
-returns-in_default c = turning_over _ _ _ _ _ c.loop-k.k _ c.loop-k.invariant c.loop-k-test.true refl _ (entered_full _ _ c.negate_held.result _ c.negate_held.ensures c.in_default.is)
-
-pub overflow_cast-numbers : goal.overflow_cast-numbers
-overflow_cast-numbers c = omega (arith, turning_fits _ _ _ _ _ c.loop-k.k _ c.loop-k.invariant c.loop-k-test.true refl _ _ (entered_at _ _ c.negate_held.result _ _ c.negate_held.ensures c.in-At.is))
+pub returns-in_err-i : goal.returns-in_err-i
+returns-in_err-i c = let h = turning_over _ _ _ _ _ c.loop-k.k _ c.loop-k.invariant c.loop-k-test.true refl _ (entered_full _ _ c.negate_held.result _ c.negate_held.ensures c.in_err-i.was) in search rules
 
 pub loop-k-preserved : goal.loop-k-preserved
-loop-k-preserved c = turning_more _ _ _ _ _ c.loop-k.k _ c.loop-k.invariant c.loop-k-test.true refl _ _ (entered_at _ _ c.negate_held.result _ _ c.negate_held.ensures c.in-At.is)
+loop-k-preserved c = turning_more _ _ _ _ _ c.loop-k.k _ c.loop-k.invariant c.loop-k-test.true refl _ _ (entered_at _ _ c.negate_held.result _ _ c.negate_held.ensures c.in_ok-i.was)
 
 pub returns : goal.returns
 returns c = turning_ends _ _ _ _ _ c.loop-k.k c.loop-k.invariant c.loop-k-test.false
