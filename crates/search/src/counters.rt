@@ -27,8 +27,7 @@ impl Counters {
     {
         Counters {
             explored: self.explored + 1,
-            hits: self.hits,
-            reached: self.reached,
+            ..self
         }
     }
 
@@ -38,9 +37,8 @@ impl Counters {
         ensures { result ≡ struck self }
     {
         Counters {
-            explored: self.explored,
             hits: self.hits + 1,
-            reached: self.reached,
+            ..self
         }
     }
 
@@ -48,13 +46,9 @@ impl Counters {
     pub fn reach(self, depth: usize) -> Counters
         ensures { result ≡ reached_at depth self }
     {
-        if self.reached < depth {
-            return Counters {
-                explored: self.explored,
-                hits: self.hits,
-                reached: depth,
-            };
+        Counters {
+            reached: self.reached.max(depth),
+            ..self
         }
-        self
     }
 }

@@ -48,10 +48,7 @@ pub fn first_plan(mem: &[u16], z: Zones) -> Plan
     if n == 0 {
         return Plan::Empty;
     }
-    let mut k = 0;
-    while k < n {
-        let i = k;
-        k += 1;
+    for i in 0..n {
         let p = plan_at(mem, z.linear[i], i);
         let Plan::Rest = p else {
             return p;
@@ -167,11 +164,5 @@ pub fn masks_over(n: usize) -> usize
     requires { n ≤ 30 }
     ensures { result ≡ 2 ^ n }
 {
-    let mut r = 1;
-    let mut doubled = 0;
-    while doubled < n {
-        r = r + r;
-        doubled += 1;
-    }
-    r
+    1 << n
 }

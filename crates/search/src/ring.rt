@@ -32,7 +32,7 @@ impl Prover {
         requires { Wf mem.now × StandsIn mem.now z }
         ensures { result ≡ seen self.cache self.budget (failed mem.now) (sequent mem.now z) }
     {
-        if self.cache { known(mem, z) } else { false }
+        self.cache && known(mem, z)
     }
 
     // A no after the rules is recorded, where the cache is on. False: there is no room.
@@ -40,11 +40,7 @@ impl Prover {
         requires { Wf mem.old × StandsIn mem.old z }
         ensures { FiledOr self mem.old z result mem.new }
     {
-        if self.cache {
-            record_failure(mem, z)
-        } else {
-            true
-        }
+        !self.cache || record_failure(mem, z)
     }
 
     // search.rs: `prove_with_depth`
@@ -199,11 +195,8 @@ impl Prover {
         ensures { Chooses self left depth z at c mem.old work.old result mem.new work.new }
     {
         let n = z.linear_len;
-        let mut x = 0;
         let mut c1 = c;
-        while x < n {
-            let i = x;
-            x += 1;
+        for i in 0..n {
             let a = self.prove_focused(z, i, left, depth, at, c1, mem, work);
             if let Outcome::Nothing(c2) = a {
                 c1 = c2;
@@ -262,11 +255,8 @@ impl Prover {
         ensures { Splits self left depth z at c mem.old work.old result mem.new work.new i a b }
     {
         let n = masks_over(z.linear_len - 1);
-        let mut x = 0;
         let mut c1 = c;
-        while x < n {
-            let m = x;
-            x += 1;
+        for m in 0..n {
             let r = self.both(
                 z.left_part(i, m, a),
                 z.right_part(i, m, b),
@@ -391,11 +381,8 @@ impl Prover {
         ensures { Uses self left depth z at c mem.old work.old result mem.new work.new rule }
     {
         let n = z.unrestricted_len;
-        let mut x = 0;
         let mut c1 = c;
-        while x < n {
-            let i = x;
-            x += 1;
+        for i in 0..n {
             let a = self.taken(rule, z, i, left, depth, at, c1, mem, work);
             if let Outcome::Nothing(c2) = a {
                 c1 = c2;

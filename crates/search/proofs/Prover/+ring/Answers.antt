@@ -14,20 +14,11 @@ use Rattle.search.proofs.Focused.{plus_again, on_axiom, on_one, on_of_course, on
 use Prim.Native.Nat.{◌-◌}
 use Rattle.search.proofs.Prover.+ring.Goals as goal
 
-pub both-overflow_add-depth : goal.both-overflow_add-depth
-both-overflow_add-depth t c = omega (arith, c.requires.0.shallow)
-
-pub both-overflow_add-at : goal.both-overflow_add-at
-both-overflow_add-at t c = omega (arith, c.requires.0.stack, c.requires.0.within, c.requires.0.small)
-
 pub both-visit-a-requires : goal.both-visit-a-requires
 both-visit-a-requires t c = (omega (arith, few_lollis c.args.mem.now c.requires.0.zones.fits), ready_premise c.requires.0 _ (omega arith))
 
 pub both-returns-in_default : goal.both-returns-in_default
 both-returns-in_default t c = both_left_stops c.args.left c.args.depth c.requires.0 c.args.x c.visit-a.ensures c.args.u (not_found _ c.in_default.not-Found)
-
-pub both-overflow_add-depth-2 : goal.both-overflow_add-depth-2
-both-overflow_add-depth-2 t c = omega (arith, c.requires.0.shallow)
 
 pub both-visit-b-requires : goal.both-visit-b-requires
 both-visit-b-requires t c = (omega (arith, few_after c.args.u c.visit-a.ensures c.requires.1.fits), ready_right c.requires.0 _ (omega arith) c.requires.1 c.visit-a.ensures c.in-Found.is)
@@ -35,83 +26,38 @@ both-visit-b-requires t c = (omega (arith, few_after c.args.u c.visit-a.ensures 
 pub both-returns-in_default-b : goal.both-returns-in_default-b
 both-returns-in_default-b t c = both_right_stops c.args.left c.args.depth c.requires.0 c.args.x c.visit-a.ensures c.requires.1 c.in-Found.is c.visit-b.ensures (not_found _ c.in_default-b.not-Found)
 
-pub both-offset_bounds-work-at : goal.both-offset_bounds-work-at
-both-offset_bounds-work-at t c = omega (arith, c.requires.0.stack, c.requires.0.within, c.requires.0.small)
-
-pub both-bounds-work-at : goal.both-bounds-work-at
-both-bounds-work-at t c = both_room c.args.left c.args.depth c.requires.0 c.args.x c.visit-a.ensures c.requires.1 c.in-Found.is c.visit-b.ensures c.in-Found-b.is
-
-pub both-shape_of-work : goal.both-shape_of-work
-both-shape_of-work t c = simp length-set (c.work-2-1.given ∙ c.work-1.given)
-
 pub both-returns : goal.both-returns
 both-returns t c = both_found c.args.left c.args.depth c.requires.0 c.args.x c.visit-a.ensures c.requires.1 c.in-Found.is c.visit-b.ensures c.in-Found-b.is
-
-pub copies-unrestricted-a-requires : goal.copies-unrestricted-a-requires
-copies-unrestricted-a-requires t c = (omega arith, c.requires)
 
 pub copies-returns-in_default : goal.copies-returns-in_default
 copies-returns-in_default t c = stops c.unrestricted-a.ensures (not_nothing _ c.in_default.not-Nothing) _
 
-pub copies-unrestricted-requires : goal.copies-unrestricted-requires
-copies-unrestricted-requires t c = (omega arith, ready_after c.requires (nothing_kept c.unrestricted-a.ensures c.in-Nothing.is))
-
 pub copies-returns : goal.copies-returns
 copies-returns t c = copies_go c.args.left c.args.depth c.requires c.unrestricted-a.ensures c.in-Nothing.is c.unrestricted.ensures
-
-pub exponentials-unrestricted-a-requires : goal.exponentials-unrestricted-a-requires
-exponentials-unrestricted-a-requires t c = (omega arith, c.requires)
 
 pub exponentials-returns-in_default : goal.exponentials-returns-in_default
 exponentials-returns-in_default t c = stops c.unrestricted-a.ensures (not_nothing _ c.in_default.not-Nothing) _
 
-pub exponentials-copies-requires : goal.exponentials-copies-requires
-exponentials-copies-requires t c = (omega arith, ready_after c.requires (nothing_kept c.unrestricted-a.ensures c.in-Nothing.is))
-
 pub exponentials-returns : goal.exponentials-returns
 exponentials-returns t c = exponentials_go c.args.left c.args.depth c.requires c.unrestricted-a.ensures c.in-Nothing.is c.copies.ensures
 
-pub masks-overflow_sub-z : goal.masks-overflow_sub-z
-masks-overflow_sub-z t c = omega (arith, c.requires.1.place)
-
-pub masks-masks_over-n-requires : goal.masks-masks_over-n-requires
-masks-masks_over-n-requires t c = omega (arith, c.requires.0.zones.fits.few)
-
-pub masks-loop-x-init : goal.masks-loop-x-init
-masks-loop-x-init t c = (omega arith, (splitting_starts c.args.left c.args.depth c.requires.0 c.requires.1 c.masks_over-n.ensures, refl))
-
-pub masks-left_part-requires : goal.masks-left_part-requires
-masks-left_part-requires t c = (c.requires.0.zones.fits, c.requires.1.place)
-
-pub masks-right_part-requires : goal.masks-right_part-requires
-masks-right_part-requires t c = (c.requires.0.zones.fits, c.requires.1.place)
+pub masks-loop-m-init : goal.masks-loop-m-init
+masks-loop-m-init t c = splitting_starts c.args.left c.args.depth c.requires.0 c.requires.1 c.masks_over-n.ensures
 
 pub masks-word-requires : goal.masks-word-requires
 masks-word-requires t c = (omega arith, (place_low c.args.left c.args.depth c.requires.0 c.requires.1.place, omega (arith, c.masks_over-n.ensures, pow_small (c.args.z.linear_len - 1) (omega (arith, c.requires.0.zones.fits.few)))))
 
 pub masks-both-r-requires : goal.masks-both-r-requires
-masks-both-r-requires t c = (omega arith, (ready_zones (ready_after c.requires.0 c.loop-x.invariant.1.0.kept) (stands_later c.loop-x.invariant.1.0.kept.grew (stands_made c.requires.0.zones c.left_part.ensures c.requires.1.left)), stands_later c.loop-x.invariant.1.0.kept.grew (stands_made c.requires.0.zones c.right_part.ensures c.requires.1.right)))
+masks-both-r-requires t c = (omega arith, (ready_zones (ready_after c.requires.0 c.loop-m.invariant.kept) (stands_later c.loop-m.invariant.kept.grew (stands_made c.requires.0.zones c.left_part.ensures c.requires.1.left)), stands_later c.loop-m.invariant.kept.grew (stands_made c.requires.0.zones c.right_part.ensures c.requires.1.right)))
 
-pub masks-loop-x-preserved : goal.masks-loop-x-preserved
-masks-loop-x-preserved t c = (omega arith, (splitting_goes c.args.left c.args.depth c.requires.0 c.requires.1 c.loop-x.invariant.1.0 c.loop-x-test.true c.left_part.ensures c.right_part.ensures c.word.ensures c.both-r.ensures c.in-Nothing.is, c.mem-1.given ∙ c.loop-x.invariant.1.1))
-
-pub masks-shape_of-mem-in_default : goal.masks-shape_of-mem-in_default
-masks-shape_of-mem-in_default t c = c.mem-1.given ∙ c.loop-x.invariant.1.1
+pub masks-loop-m-preserved : goal.masks-loop-m-preserved
+masks-loop-m-preserved t c = splitting_goes c.args.left c.args.depth c.requires.0 c.requires.1 c.loop-m.invariant c.loop-m-test.true c.left_part.ensures c.right_part.ensures c.word.ensures c.both-r.ensures c.in-Nothing.is
 
 pub masks-returns-in_default : goal.masks-returns-in_default
-masks-returns-in_default t c = splitting_stops c.args.left c.args.depth c.requires.0 c.requires.1 c.loop-x.invariant.1.0 c.loop-x-test.true c.left_part.ensures c.right_part.ensures c.word.ensures c.both-r.ensures (not_nothing _ c.in_default.not-Nothing)
-
-pub masks-shape_of-mem : goal.masks-shape_of-mem
-masks-shape_of-mem t c = c.loop-x.invariant.1.1
+masks-returns-in_default t c = splitting_stops c.args.left c.args.depth c.requires.0 c.requires.1 c.loop-m.invariant c.loop-m-test.true c.left_part.ensures c.right_part.ensures c.word.ensures c.both-r.ensures (not_nothing _ c.in_default.not-Nothing)
 
 pub masks-returns : goal.masks-returns
-masks-returns t c = splitting_ends c.args.left c.args.depth c.requires.0 c.requires.1 c.loop-x.invariant.1.0 c.loop-x-test.false
-
-pub plus-replaced-requires : goal.plus-replaced-requires
-plus-replaced-requires t c = (c.requires.0.zones.fits, c.requires.1.place)
-
-pub plus-word-requires : goal.plus-word-requires
-plus-word-requires t c = (omega arith, (place_low c.args.left c.args.depth c.requires.0 c.requires.1.place, omega arith))
+masks-returns t c = splitting_ends c.args.left c.args.depth c.requires.0 c.requires.1 c.loop-m.invariant c.loop-m-test.false
 
 pub plus-under-r-requires : goal.plus-under-r-requires
 plus-under-r-requires t c = (omega arith, ready_zones c.requires.0 (stands_made c.requires.0.zones c.replaced.ensures c.requires.1.left))
@@ -119,50 +65,23 @@ plus-under-r-requires t c = (omega arith, ready_zones c.requires.0 (stands_made 
 pub plus-returns-in_default : goal.plus-returns-in_default
 plus-returns-in_default t c = plus_stops c.args.left c.args.depth c.requires.0 c.requires.1 c.replaced.ensures c.word.ensures c.under-r.ensures (not_nothing _ (search rules))
 
-pub plus-replaced-requires-2 : goal.plus-replaced-requires-2
-plus-replaced-requires-2 t c = (c.requires.0.zones.fits, c.requires.1.place)
-
-pub plus-word-requires-2 : goal.plus-word-requires-2
-plus-word-requires-2 t c = (omega arith, (place_low c.args.left c.args.depth c.requires.0 c.requires.1.place, omega arith))
-
 pub plus-under-requires : goal.plus-under-requires
 plus-under-requires t c = (omega arith, plus_again c.args.left c.args.depth c.requires.0 c.requires.1 c.replaced.ensures c.word.ensures c.under-r.ensures (search rules) c.replaced-2.ensures)
 
 pub plus-returns : goal.plus-returns
 plus-returns t c = plus_goes c.args.left c.args.depth c.requires.0 c.requires.1 c.replaced.ensures c.word.ensures c.under-r.ensures (search rules) c.replaced-2.ensures c.word-2.ensures c.under.ensures
 
-pub positives-loop-x-init : goal.positives-loop-x-init
-positives-loop-x-init t c = (omega arith, (choosing_starts c.args.left c.args.depth c.requires, refl))
-
-pub positives-prove_focused-a-requires : goal.positives-prove_focused-a-requires
-positives-prove_focused-a-requires t c = (omega arith, (ready_after c.requires c.loop-x.invariant.1.0.kept, c.loop-x-test.true))
-
-pub positives-loop-x-preserved : goal.positives-loop-x-preserved
-positives-loop-x-preserved t c = (omega arith, (choosing_goes c.args.left c.args.depth c.requires c.loop-x.invariant.1.0 c.loop-x-test.true c.prove_focused-a.ensures c.in-Nothing.is, c.mem-1.given ∙ c.loop-x.invariant.1.1))
-
-pub positives-shape_of-mem-in_default : goal.positives-shape_of-mem-in_default
-positives-shape_of-mem-in_default t c = c.mem-1.given ∙ c.loop-x.invariant.1.1
+pub positives-loop-i-preserved : goal.positives-loop-i-preserved
+positives-loop-i-preserved t c = choosing_goes c.args.left c.args.depth c.requires c.loop-i.invariant c.loop-i-test.true c.prove_focused-a.ensures c.in-Nothing.is
 
 pub positives-returns-in_default : goal.positives-returns-in_default
-positives-returns-in_default t c = choosing_stops c.args.left c.args.depth c.requires c.loop-x.invariant.1.0 c.loop-x-test.true c.prove_focused-a.ensures (not_nothing _ c.in_default.not-Nothing)
-
-pub positives-shape_of-mem : goal.positives-shape_of-mem
-positives-shape_of-mem t c = c.loop-x.invariant.1.1
+positives-returns-in_default t c = choosing_stops c.args.left c.args.depth c.requires c.loop-i.invariant c.loop-i-test.true c.prove_focused-a.ensures (not_nothing _ c.in_default.not-Nothing)
 
 pub positives-returns : goal.positives-returns
-positives-returns t c = choosing_ends c.args.left c.args.depth c.requires c.loop-x.invariant.1.0 c.loop-x-test.false
-
-pub prove_async-first_plan-p-requires : goal.prove_async-first_plan-p-requires
-prove_async-first_plan-p-requires t c = (c.requires.wf, c.requires.zones)
-
-pub prove_async-count-requires : goal.prove_async-count-requires
-prove_async-count-requires t c = c.requires.zones.fits
+positives-returns t c = choosing_ends c.args.left c.args.depth c.requires c.loop-i.invariant c.loop-i-test.false
 
 pub prove_async-returns-then-count-eq-MAX_SEQUENT : goal.prove_async-returns-then-count-eq-MAX_SEQUENT
 prove_async-returns-then-count-eq-MAX_SEQUENT t c = on_par_long c.args.left c.args.depth c.requires (subst (Planned c.args.mem.now c.args.z) c.in-Par.is c.first_plan-p.ensures) c.count.ensures c.if-count-eq-MAX_SEQUENT.true
-
-pub prove_async-without-requires : goal.prove_async-without-requires
-prove_async-without-requires t c = (c.requires.zones.fits, (subst (Planned c.args.mem.now c.args.z) c.in-Par.is c.first_plan-p.ensures).first.place)
 
 pub prove_async-pushed-requires : goal.prove_async-pushed-requires
 prove_async-pushed-requires t c = (c.without.ensures.fits, omega (arith, fewer c.requires.zones.fits (subst (Planned c.args.mem.now c.args.z) c.in-Par.is c.first_plan-p.ensures).first.place c.without.ensures, c.requires.zones.fits.few))
@@ -170,61 +89,25 @@ prove_async-pushed-requires t c = (c.without.ensures.fits, omega (arith, fewer c
 pub prove_async-pushed-y-requires : goal.prove_async-pushed-y-requires
 prove_async-pushed-y-requires t c = (c.pushed.ensures.fits, omega (arith, longer c.without.ensures.fits c.pushed.ensures, fewer c.requires.zones.fits (subst (Planned c.args.mem.now c.args.z) c.in-Par.is c.first_plan-p.ensures).first.place c.without.ensures, not_full c.requires.zones.fits c.count.ensures c.if-count-eq-MAX_SEQUENT.false))
 
-pub prove_async-word-requires : goal.prove_async-word-requires
-prove_async-word-requires t c = (omega arith, (place_low c.args.left c.args.depth c.requires (subst (Planned c.args.mem.now c.args.z) c.in-Par.is c.first_plan-p.ensures).first.place, omega arith))
-
 pub prove_async-under-requires : goal.prove_async-under-requires
 prove_async-under-requires t c = (omega (arith, c.decreases), ready_zones c.requires (stands_made (stands_made (stands_made c.requires.zones c.without.ensures tt) c.pushed.ensures (subst (Planned c.args.mem.now c.args.z) c.in-Par.is c.first_plan-p.ensures).left) c.pushed-y.ensures (subst (Planned c.args.mem.now c.args.z) c.in-Par.is c.first_plan-p.ensures).right))
-
-pub prove_async-without-y-requires : goal.prove_async-without-y-requires
-prove_async-without-y-requires t c = (c.requires.zones.fits, (subst (Planned c.args.mem.now c.args.z) c.in-Bottom.is c.first_plan-p.ensures).place)
-
-pub prove_async-word-requires-in-Bottom : goal.prove_async-word-requires-in-Bottom
-prove_async-word-requires-in-Bottom t c = (omega arith, (place_low c.args.left c.args.depth c.requires (subst (Planned c.args.mem.now c.args.z) c.in-Bottom.is c.first_plan-p.ensures).place, omega arith))
 
 pub prove_async-under-requires-in-Bottom : goal.prove_async-under-requires-in-Bottom
 prove_async-under-requires-in-Bottom t c = (omega arith, ready_zones c.requires (stands_made c.requires.zones c.without-y.ensures tt))
 
-pub prove_async-word-requires-in-Top : goal.prove_async-word-requires-in-Top
-prove_async-word-requires-in-Top t c = (omega arith, (place_low c.args.left c.args.depth c.requires (subst (Planned c.args.mem.now c.args.z) c.in-Top.is c.first_plan-p.ensures).place, omega arith))
-
-pub prove_async-leaf-requires : goal.prove_async-leaf-requires
-prove_async-leaf-requires t c = omega (arith, c.requires.stack, c.requires.within, c.requires.room)
-
-pub prove_async-without-y-requires-in-With : goal.prove_async-without-y-requires-in-With
-prove_async-without-y-requires-in-With t c = (c.requires.zones.fits, (subst (Planned c.args.mem.now c.args.z) c.in-With.is c.first_plan-p.ensures).first.place)
-
 pub prove_async-pushed-requires-in-With : goal.prove_async-pushed-requires-in-With
 prove_async-pushed-requires-in-With t c = (c.without-y-in-With.ensures.fits, omega (arith, fewer c.requires.zones.fits (subst (Planned c.args.mem.now c.args.z) c.in-With.is c.first_plan-p.ensures).first.place c.without-y-in-With.ensures, c.requires.zones.fits.few))
-
-pub prove_async-pushed-requires-in-With-2 : goal.prove_async-pushed-requires-in-With-2
-prove_async-pushed-requires-in-With-2 t c = (c.without-y-in-With.ensures.fits, omega (arith, fewer c.requires.zones.fits (subst (Planned c.args.mem.now c.args.z) c.in-With.is c.first_plan-p.ensures).first.place c.without-y-in-With.ensures, c.requires.zones.fits.few))
-
-pub prove_async-word-requires-in-With : goal.prove_async-word-requires-in-With
-prove_async-word-requires-in-With t c = (omega arith, (place_low c.args.left c.args.depth c.requires (subst (Planned c.args.mem.now c.args.z) c.in-With.is c.first_plan-p.ensures).first.place, omega arith))
 
 pub prove_async-both-requires : goal.prove_async-both-requires
 prove_async-both-requires t c = let parts = subst (Planned c.args.mem.now c.args.z) c.in-With.is c.first_plan-p.ensures in
     let less = stands_made c.requires.zones c.without-y-in-With.ensures tt in
     (omega (arith, c.decreases), (ready_zones c.requires (stands_made less c.pushed-in-With.ensures (omega (arith, parts.left, parts.right))), stands_made less c.pushed-in-With-2.ensures (omega (arith, parts.left, parts.right))))
 
-pub prove_async-without-requires-in-WhyNot : goal.prove_async-without-requires-in-WhyNot
-prove_async-without-requires-in-WhyNot t c = (c.requires.zones.fits, (subst (Planned c.args.mem.now c.args.z) c.in-WhyNot.is c.first_plan-p.ensures).first.place)
-
 pub prove_async-pushed_unrestricted-y-requires : goal.prove_async-pushed_unrestricted-y-requires
 prove_async-pushed_unrestricted-y-requires t c = (c.without-in-WhyNot.ensures.fits, omega (arith, fewer c.requires.zones.fits (subst (Planned c.args.mem.now c.args.z) c.in-WhyNot.is c.first_plan-p.ensures).first.place c.without-in-WhyNot.ensures, c.requires.zones.fits.few))
 
-pub prove_async-word-requires-in-WhyNot : goal.prove_async-word-requires-in-WhyNot
-prove_async-word-requires-in-WhyNot t c = (omega arith, (place_low c.args.left c.args.depth c.requires (subst (Planned c.args.mem.now c.args.z) c.in-WhyNot.is c.first_plan-p.ensures).first.place, omega arith))
-
 pub prove_async-under-requires-in-WhyNot : goal.prove_async-under-requires-in-WhyNot
 prove_async-under-requires-in-WhyNot t c = (omega arith, ready_zones c.requires (stands_made (stands_made c.requires.zones c.without-in-WhyNot.ensures tt) c.pushed_unrestricted-y.ensures (subst (Planned c.args.mem.now c.args.z) c.in-WhyNot.is c.first_plan-p.ensures).part))
-
-pub prove_async-spelled-requires : goal.prove_async-spelled-requires
-prove_async-spelled-requires t c = (omega arith, (c.requires, (subst (Planned c.args.mem.now c.args.z) c.in-Lolli.is c.first_plan-p.ensures)))
-
-pub prove_async-prove_sync-requires : goal.prove_async-prove_sync-requires
-prove_async-prove_sync-requires t c = (omega arith, c.requires)
 
 pub prove_async-returns-in-Empty : goal.prove_async-returns-in-Empty
 prove_async-returns-in-Empty t c = on_empty c.args.left c.args.depth c.requires (subst (Planned c.args.mem.now c.args.z) c.in-Empty.is c.first_plan-p.ensures)
@@ -244,35 +127,8 @@ prove_async-returns-in-With t c = on_with c.args.left c.args.depth c.requires (s
 pub prove_async-returns-in-WhyNot : goal.prove_async-returns-in-WhyNot
 prove_async-returns-in-WhyNot t c = on_why_not c.args.left c.args.depth c.requires (subst (Planned c.args.mem.now c.args.z) c.in-WhyNot.is c.first_plan-p.ensures) c.without-in-WhyNot.ensures c.pushed_unrestricted-y.ensures c.word-in-WhyNot.ensures c.under-in-WhyNot.ensures
 
-pub prove_async-returns-in-Lolli : goal.prove_async-returns-in-Lolli
-prove_async-returns-in-Lolli t c = c.spelled.ensures
-
 pub prove_async-returns-in-Rest : goal.prove_async-returns-in-Rest
 prove_async-returns-in-Rest t c = on_rest c.args.left c.args.depth c.requires (subst (Planned c.args.mem.now c.args.z) c.in-Rest.is c.first_plan-p.ensures) c.prove_sync.ensures
-
-pub prove_focused-focus_on-f-requires : goal.prove_focused-focus_on-f-requires
-prove_focused-focus_on-f-requires t c = ((c.requires.0.wf, c.requires.0.zones), c.requires.1)
-
-pub prove_focused-leaf-requires : goal.prove_focused-leaf-requires
-prove_focused-leaf-requires t c = omega (arith, c.requires.0.stack, c.requires.0.within, c.requires.0.room)
-
-pub prove_focused-leaf-requires-in-One : goal.prove_focused-leaf-requires-in-One
-prove_focused-leaf-requires-in-One t c = omega (arith, c.requires.0.stack, c.requires.0.within, c.requires.0.room)
-
-pub prove_focused-masks-requires : goal.prove_focused-masks-requires
-prove_focused-masks-requires t c = (omega arith, (c.requires.0, (subst (Focused c.args.mem.now c.args.z c.args.i) c.in-Tensor.is c.focus_on-f.ensures)))
-
-pub prove_focused-plus-requires : goal.prove_focused-plus-requires
-prove_focused-plus-requires t c = (omega arith, (c.requires.0, (subst (Focused c.args.mem.now c.args.z c.args.i) c.in-Plus.is c.focus_on-f.ensures)))
-
-pub prove_focused-only-requires : goal.prove_focused-only-requires
-prove_focused-only-requires t c = (c.requires.0.zones.fits, omega (arith, c.requires.0.zones.fits.few, (subst (Focused c.args.mem.now c.args.z c.args.i) c.in-OfCourse.is c.focus_on-f.ensures).only.alone))
-
-pub prove_focused-word-requires : goal.prove_focused-word-requires
-prove_focused-word-requires t c = (omega arith, (place_low c.args.left c.args.depth c.requires.0 c.requires.1, omega arith))
-
-pub prove_focused-under-requires : goal.prove_focused-under-requires
-prove_focused-under-requires t c = (omega arith, ready_zones c.requires.0 (stands_made c.requires.0.zones c.only.ensures (subst (Focused c.args.mem.now c.args.z c.args.i) c.in-OfCourse.is c.focus_on-f.ensures).part))
 
 pub prove_focused-returns-in-Axiom : goal.prove_focused-returns-in-Axiom
 prove_focused-returns-in-Axiom t c = on_axiom c.args.left c.args.depth c.requires.0 c.requires.1 (subst (Focused c.args.mem.now c.args.z c.args.i) c.in-Axiom.is c.focus_on-f.ensures) refl c.leaf.ensures
@@ -289,32 +145,14 @@ prove_focused-returns-in-Plus t c = on_plus c.args.left c.args.depth c.requires.
 pub prove_focused-returns-in-OfCourse : goal.prove_focused-returns-in-OfCourse
 prove_focused-returns-in-OfCourse t c = on_of_course c.args.left c.args.depth c.requires.0 c.requires.1 (subst (Focused c.args.mem.now c.args.z c.args.i) c.in-OfCourse.is c.focus_on-f.ensures) c.only.ensures c.word.ensures c.under.ensures
 
-pub prove_focused-returns-in-Nothing : goal.prove_focused-returns-in-Nothing
-prove_focused-returns-in-Nothing t c = on_nothing c.args.left c.args.depth c.requires.0 c.requires.1 (subst (Focused c.args.mem.now c.args.z c.args.i) c.in-Nothing.is c.focus_on-f.ensures)
-
-pub prove_sync-positives-a-requires : goal.prove_sync-positives-a-requires
-prove_sync-positives-a-requires t c = (omega arith, c.requires)
-
 pub prove_sync-returns-in_default : goal.prove_sync-returns-in_default
 prove_sync-returns-in_default t c = sync_stops c.args.left c.args.depth c.requires c.positives-a.ensures (not_nothing _ c.in_default.not-Nothing)
-
-pub prove_sync-exponentials-requires : goal.prove_sync-exponentials-requires
-prove_sync-exponentials-requires t c = (omega arith, ready_after c.requires (nothing_kept c.positives-a.ensures c.in-Nothing.is))
 
 pub prove_sync-returns : goal.prove_sync-returns
 prove_sync-returns t c = sync_goes c.args.left c.args.depth c.requires c.positives-a.ensures c.in-Nothing.is c.exponentials.ensures
 
-pub spelled-spell-g-requires : goal.spelled-spell-g-requires
-spelled-spell-g-requires t c = c.requires.1.implication
-
 pub spelled-returns-in_default : goal.spelled-returns-in_default
 spelled-returns-in_default t c = on_full c.args.left c.args.depth c.requires.0 c.requires.1 (full_by _ _ _ c.in_default.is c.spell-g.ensures)
-
-pub spelled-replaced-requires : goal.spelled-replaced-requires
-spelled-replaced-requires t c = (c.requires.0.zones.fits, c.requires.1.first.place)
-
-pub spelled-overflow_add-left : goal.spelled-overflow_add-left
-spelled-overflow_add-left t c = omega (arith, c.requires.0.shallow)
 
 pub spelled-visit-requires : goal.spelled-visit-requires
 spelled-visit-requires t c = (omega (arith, lolli_falls c.args.left c.args.depth c.requires.0 c.requires.1 (spelled_by _ _ _ c.in-At.is c.spell-g.ensures) c.replaced.ensures), ready_again c.requires.0 (spelled_by _ _ _ c.in-At.is c.spell-g.ensures).grew (spelled_by _ _ _ c.in-At.is c.spell-g.ensures).wf (spelled_stands c.args.left c.args.depth c.requires.0 c.requires.1 (spelled_by _ _ _ c.in-At.is c.spell-g.ensures) c.replaced.ensures))
@@ -322,29 +160,11 @@ spelled-visit-requires t c = (omega (arith, lolli_falls c.args.left c.args.depth
 pub spelled-returns : goal.spelled-returns
 spelled-returns t c = on_spelled c.args.left c.args.depth c.requires.0 c.requires.1 (spelled_by _ _ _ c.in-At.is c.spell-g.ensures) c.replaced.ensures c.visit.ensures
 
-pub taken-too_long-requires : goal.taken-too_long-requires
-taken-too_long-requires t c = c.requires.0.zones.fits
-
 pub taken-returns-then-too_long : goal.taken-returns-then-too_long
 taken-returns-then-too_long t c = taken_long c.args.rule c.args.left c.args.depth c.requires.0 c.requires.1 c.too_long.ensures c.if-too_long.true
 
-pub taken-premise-requires : goal.taken-premise-requires
-taken-premise-requires t c = (c.requires.0.zones.fits, (c.requires.1, sym c.too_long.ensures ∙ c.if-too_long.false))
-
-pub taken-word-requires : goal.taken-word-requires
-taken-word-requires t c = (omega (arith, c.number_of.ensures, number_low c.args.rule), (omega (arith, c.requires.0.zones.fits.few, c.requires.1), omega arith))
-
-pub taken-under-requires : goal.taken-under-requires
-taken-under-requires t c = (omega arith, ready_zones c.requires.0 record { fits = c.premise.ensures.fits; within = c.premise.ensures.within _ c.requires.0.zones.within })
-
 pub taken-returns : goal.taken-returns
 taken-returns t c = taken_under c.args.rule c.args.left c.args.depth c.requires.0 c.requires.1 c.premise.ensures c.number_of.ensures c.word.ensures c.under.ensures
-
-pub under-overflow_add-depth : goal.under-overflow_add-depth
-under-overflow_add-depth t c = omega (arith, c.requires.shallow)
-
-pub under-overflow_add-at : goal.under-overflow_add-at
-under-overflow_add-at t c = omega (arith, c.requires.stack, c.requires.within, c.requires.small)
 
 pub under-visit-a-requires : goal.under-visit-a-requires
 under-visit-a-requires t c = (omega (arith, few_lollis c.args.mem.now c.requires.zones.fits), ready_premise c.requires _ (omega arith))
@@ -352,53 +172,29 @@ under-visit-a-requires t c = (omega (arith, few_lollis c.args.mem.now c.requires
 pub under-returns-in_default : goal.under-returns-in_default
 under-returns-in_default t c = under_stops c.args.left c.args.depth c.requires c.args.x c.visit-a.ensures (not_found _ c.in_default.not-Found)
 
-pub under-bounds-work-at : goal.under-bounds-work-at
-under-bounds-work-at t c = under_room c.args.left c.args.depth c.requires c.args.x c.visit-a.ensures c.in-Found.is
-
 pub under-returns : goal.under-returns
 under-returns t c = under_found c.args.left c.args.depth c.requires c.args.x c.visit-a.ensures c.in-Found.is
 
-pub unrestricted-loop-x-init : goal.unrestricted-loop-x-init
-unrestricted-loop-x-init t c = (omega arith, (using_starts c.args.rule c.args.left c.args.depth c.requires, refl))
+pub unrestricted-loop-i-init : goal.unrestricted-loop-i-init
+unrestricted-loop-i-init t c = using_starts c.args.rule c.args.left c.args.depth c.requires
 
-pub unrestricted-taken-a-requires : goal.unrestricted-taken-a-requires
-unrestricted-taken-a-requires t c = (omega arith, (ready_after c.requires c.loop-x.invariant.1.0.kept, c.loop-x-test.true))
-
-pub unrestricted-loop-x-preserved : goal.unrestricted-loop-x-preserved
-unrestricted-loop-x-preserved t c = (omega arith, (using_goes c.args.rule c.args.left c.args.depth c.requires c.loop-x.invariant.1.0 c.loop-x-test.true c.taken-a.ensures c.in-Nothing.is, c.mem-1.given ∙ c.loop-x.invariant.1.1))
-
-pub unrestricted-shape_of-mem-in_default : goal.unrestricted-shape_of-mem-in_default
-unrestricted-shape_of-mem-in_default t c = c.mem-1.given ∙ c.loop-x.invariant.1.1
+pub unrestricted-loop-i-preserved : goal.unrestricted-loop-i-preserved
+unrestricted-loop-i-preserved t c = using_goes c.args.rule c.args.left c.args.depth c.requires c.loop-i.invariant c.loop-i-test.true c.taken-a.ensures c.in-Nothing.is
 
 pub unrestricted-returns-in_default : goal.unrestricted-returns-in_default
-unrestricted-returns-in_default t c = using_stops c.args.rule c.args.left c.args.depth c.requires c.loop-x.invariant.1.0 c.loop-x-test.true c.taken-a.ensures (not_nothing _ c.in_default.not-Nothing)
-
-pub unrestricted-shape_of-mem : goal.unrestricted-shape_of-mem
-unrestricted-shape_of-mem t c = c.loop-x.invariant.1.1
+unrestricted-returns-in_default t c = using_stops c.args.rule c.args.left c.args.depth c.requires c.loop-i.invariant c.loop-i-test.true c.taken-a.ensures (not_nothing _ c.in_default.not-Nothing)
 
 pub unrestricted-returns : goal.unrestricted-returns
-unrestricted-returns t c = using_ends c.args.rule c.args.left c.args.depth c.requires c.loop-x.invariant.1.0 c.loop-x-test.false
+unrestricted-returns t c = using_ends c.args.rule c.args.left c.args.depth c.requires c.loop-i.invariant c.loop-i-test.false
 
 pub visit-returns-then-self-c : goal.visit-returns-then-self-c
 visit-returns-then-self-c t c = visit_spent c.args.left c.args.depth c.requires c.if-self-c.true
 
-pub visit-visit-c1-requires : goal.visit-visit-c1-requires
-visit-visit-c1-requires t c = omega (arith, c.requires.small)
-
 pub visit-returns-then-left-eq0 : goal.visit-returns-then-left-eq0
 visit-returns-then-left-eq0 t c = visit_over c.args.left c.args.depth c.requires c.if-self-c.false c.visit-c1.ensures c.reach-c2.ensures c.if-left-eq0.true
 
-pub visit-seen-requires : goal.visit-seen-requires
-visit-seen-requires t c = (c.requires.wf, c.requires.zones)
-
-pub visit-hit-requires : goal.visit-hit-requires
-visit-hit-requires t c = counted_hits c.requires c.if-self-c.false c.args.depth c.visit-c1.ensures c.reach-c2.ensures
-
 pub visit-returns-then-seen : goal.visit-returns-then-seen
 visit-returns-then-seen t c = visit_hits c.args.left c.args.depth c.requires c.if-self-c.false c.visit-c1.ensures c.reach-c2.ensures c.if-left-eq0.false c.seen.ensures c.if-seen.true c.hit.ensures
-
-pub visit-prove_async-a-requires : goal.visit-prove_async-a-requires
-visit-prove_async-a-requires t c = (omega (arith, one_up c.args.left c.if-left-eq0.false), ready_rules c.requires c.if-self-c.false c.args.depth c.visit-c1.ensures c.reach-c2.ensures _ (omega (arith, one_up c.args.left c.if-left-eq0.false)))
 
 pub visit-returns-in_default : goal.visit-returns-in_default
 visit-returns-in_default t c = visit_stops c.args.left c.args.depth c.requires c.if-self-c.false c.visit-c1.ensures c.reach-c2.ensures c.if-left-eq0.false c.seen.ensures c.if-seen.false c.prove_async-a.ensures (not_nothing _ c.in_default.not-Nothing)

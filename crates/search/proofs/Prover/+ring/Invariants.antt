@@ -1,10 +1,8 @@
-use mathlib.Core.Path.{◌≡◌}
-use lib.ListN.{length}
 use Rattle.logic.specs.Search.{lollis}
 use Rattle.search.specs.Plans.{sequent}
 use Rattle.search.proofs.Choices.{Choosing, Using}
 use Rattle.search.proofs.Focused.{Splitting}
-use Prim.Native.Nat.{◌+◌, ◌-◌, ◌*◌, ◌≤◌}
+use Prim.Native.Nat.{◌+◌, ◌*◌}
 use Rattle.search.proofs.Prover.+ring.Given as goal
 
 abbrev pub decreases-both : goal.decreases-both
@@ -49,20 +47,11 @@ decreases-unrestricted l = (l.left + 1) * 1000 + 9
 abbrev pub decreases-visit : goal.decreases-visit
 decreases-visit l = l.left * 1000 + lollis (sequent l.mem.now l.z).linear * 16 + 15
 
-abbrev pub invariant-masks-loop-x : goal.invariant-masks-loop-x
-invariant-masks-loop-x l = (l.x ≤ l.n) × (Splitting l.left l.depth l.z l.i l.a l.b l.at l.self l.initial.c1 l.initial.mem l.initial.work l.n l.x l.c1 l.mem l.work × (length l.mem ≡ length l.initial.mem))
+abbrev pub invariant-masks-loop-m : goal.invariant-masks-loop-m
+invariant-masks-loop-m l = Splitting l.left l.depth l.z l.i l.a l.b l.at l.self l.initial.c1 l.initial.mem l.initial.work l.n l.m l.c1 l.mem l.work
 
-abbrev pub decreases-masks-loop-x : goal.decreases-masks-loop-x
-decreases-masks-loop-x l = l.n - l.x
+abbrev pub invariant-positives-loop-i : goal.invariant-positives-loop-i
+invariant-positives-loop-i l = Choosing l.left l.depth l.z l.at l.self l.initial.c1 l.initial.mem l.initial.work l.i l.c1 l.mem l.work
 
-abbrev pub invariant-positives-loop-x : goal.invariant-positives-loop-x
-invariant-positives-loop-x l = (l.x ≤ l.n) × (Choosing l.left l.depth l.z l.at l.self l.initial.c1 l.initial.mem l.initial.work l.x l.c1 l.mem l.work × (length l.mem ≡ length l.initial.mem))
-
-abbrev pub decreases-positives-loop-x : goal.decreases-positives-loop-x
-decreases-positives-loop-x l = l.n - l.x
-
-abbrev pub invariant-unrestricted-loop-x : goal.invariant-unrestricted-loop-x
-invariant-unrestricted-loop-x l = (l.x ≤ l.n) × (Using l.rule l.left l.depth l.z l.at l.self l.initial.c1 l.initial.mem l.initial.work l.x l.c1 l.mem l.work × (length l.mem ≡ length l.initial.mem))
-
-abbrev pub decreases-unrestricted-loop-x : goal.decreases-unrestricted-loop-x
-decreases-unrestricted-loop-x l = l.n - l.x
+abbrev pub invariant-unrestricted-loop-i : goal.invariant-unrestricted-loop-i
+invariant-unrestricted-loop-i l = Using l.rule l.left l.depth l.z l.at l.self l.initial.c1 l.initial.mem l.initial.work l.i l.c1 l.mem l.work

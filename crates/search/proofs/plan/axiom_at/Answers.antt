@@ -9,9 +9,6 @@ use Rattle.search.proofs.plan.axiom_at.Goals as goal
 pub shape_at-s-requires : goal.shape_at-s-requires
 shape_at-s-requires c = (c.requires.0.0, within_linear _ c.requires.0.1.fits c.requires.0.1.within _ (omega arith))
 
-pub returns-then-other-name : goal.returns-then-other-name
-returns-then-other-name c = axiom_here _ c.requires.0.1.fits _ c.requires.1.0 _ c.requires.1.1 c.if-z-eq2.true (subst (ShapeOf _ _) c.in-NegAtom.is c.shape_at-s.ensures ∙ ap NegAtom c.if-other-name.true)
-
 pub returns-else-other-name : goal.returns-else-other-name
 returns-else-other-name c = not_beside _ c.requires.0.1.fits _ c.requires.1.0 _ c.requires.1.1 c.if-z-eq2.true (other_name _ _ _ _ (subst (ShapeOf _ _) c.in-NegAtom.is c.shape_at-s.ensures) c.if-other-name.false)
 

@@ -10,9 +10,6 @@ shape_at-s-requires c = (c.requires.0.0, within_linear _ c.requires.0.1.fits c.r
 pub axiom_at-requires : goal.axiom_at-requires
 axiom_at-requires c = (c.requires.0, (c.requires.1, linear_here _ c.requires.0.1.fits _ c.requires.1 ∙ subst (ShapeOf _ _) c.in-Atom.is c.shape_at-s.ensures))
 
-pub returns-then-z-eq1 : goal.returns-then-z-eq1
-returns-then-z-eq1 c = record { here = linear_here _ c.requires.0.1.fits _ c.requires.1 ∙ subst (ShapeOf _ _) c.in-One.is c.shape_at-s.ensures; alone = c.if-z-eq1.true }
-
 pub returns-else-z-eq1 : goal.returns-else-z-eq1
 returns-else-z-eq1 c = not_alone_one _ c.requires.0.1.fits _ c.requires.1 (linear_here _ c.requires.0.1.fits _ c.requires.1 ∙ subst (ShapeOf _ _) c.in-One.is c.shape_at-s.ensures) c.if-z-eq1.false
 
@@ -21,9 +18,6 @@ returns-in-Tensor c = two_here _ c.requires.0.1.fits _ c.requires.1 _ _ _ (subst
 
 pub returns-in-Plus : goal.returns-in-Plus
 returns-in-Plus c = two_here _ c.requires.0.1.fits _ c.requires.1 _ _ _ (subst (ShapeOf _ _) c.in-Plus.is c.shape_at-s.ensures)
-
-pub returns-then-z-eq1-2 : goal.returns-then-z-eq1-2
-returns-then-z-eq1-2 c = alone_here _ c.requires.0.1.fits _ c.requires.1 _ (subst (ShapeOf _ _) c.in-OfCourse.is c.shape_at-s.ensures) c.if-z-eq1-2.true
 
 pub returns-else-z-eq1-2 : goal.returns-else-z-eq1-2
 returns-else-z-eq1-2 c = not_alone_of_course _ c.requires.0.1.fits _ c.requires.1 _ (linear_here _ c.requires.0.1.fits _ c.requires.1 ∙ (subst (ShapeOf _ _) c.in-OfCourse.is c.shape_at-s.ensures).here) c.if-z-eq1-2.false

@@ -2,15 +2,6 @@ use Rattle.search.proofs.Leaves.{shorter, longer, not_long, premise_dereliction,
 use native.Mathlib.Omega.{arith}
 use Rattle.search.proofs.plan.premise.Goals as goal
 
-pub pushed-requires : goal.pushed-requires
-pushed-requires c = (c.without_unrestricted-y.ensures.fits, omega (arith, shorter c.requires.0 _ c.requires.1.0 c.without_unrestricted-y.ensures))
-
-pub pushed-requires-in-Contraction : goal.pushed-requires-in-Contraction
-pushed-requires-in-Contraction c = (c.without_unrestricted-y.ensures.fits, omega (arith, shorter c.requires.0 _ c.requires.1.0 c.without_unrestricted-y.ensures))
-
-pub pushed-requires-in-Contraction-2 : goal.pushed-requires-in-Contraction-2
-pushed-requires-in-Contraction-2 c = (c.pushed-in-Contraction.ensures.fits, omega (arith, longer c.without_unrestricted-y.ensures.fits c.pushed-in-Contraction.ensures, shorter c.requires.0 _ c.requires.1.0 c.without_unrestricted-y.ensures, not_long c.args.rule c.requires.0 c.in-Contraction.is c.requires.1.1))
-
 pub returns-in-Dereliction : goal.returns-in-Dereliction
 returns-in-Dereliction c = rw c.in-Dereliction.is (premise_dereliction c.requires.0 _ c.requires.1.0 c.without_unrestricted-y.ensures c.pushed.ensures)
 
