@@ -28,20 +28,11 @@ use Rattle.memory.specs.declared.shape.Spelling.{Spelling}
 use Rattle.memory.specs.declared.shape.Spelling.TheVariants.{At, Full}
 use Rattle.memory.specs.Meaning.{told, held_count, Wf}
 use Rattle.memory.specs.Shapes.{OfTwo, OfOne, ShapeOf, Implication, Spelled, NoRoom, SpelledOr}
-use Rattle.search.specs.declared.counters.Counters.{Counters}
 use Rattle.search.specs.declared.plan.Plan.{Plan}
 use Rattle.search.specs.declared.plan.Plan.TheVariants as plan
 use Rattle.search.specs.declared.plan.Exponential.{Exponential}
 use Rattle.search.specs.declared.plan.Exponential.TheVariants.{Dereliction, Contraction, Weakening}
-use Rattle.search.specs.Contract.{reached_at}
 use Rattle.search.specs.Plans.{sequent, linear_formula, First, NoneFirst, Planned, PlannedAt, Two, AxiomAt, AlonePart, Unfocused, number_of, long, Premise}
-
--- the greatest depth reached
-pub reach_more : (c : Counters) (depth : ℕ) → c.reached < depth → record { explored = c.explored; hits = c.hits; reached = depth } ≡ reached_at depth c
-reach_more c depth h = ap (λ (n : ℕ). record { explored = c.explored; hits = c.hits; reached = n }) (omega arith)
-
-pub reach_less : (c : Counters) (depth : ℕ) → depth ≤ c.reached → c ≡ reached_at depth c
-reach_less c depth h = ap (λ (n : ℕ). record { explored = c.explored; hits = c.hits; reached = n }) (omega arith)
 
 -- what stands at a place
 map_here : (f : ℕ → Formula) (xs : List ℕ) (i : ℕ) (d : Formula) → i < length xs → get_or (map f xs) i d ≡ f (get_or xs i 0)
