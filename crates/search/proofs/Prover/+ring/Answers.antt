@@ -1,16 +1,15 @@
-use mathlib.Core.Path.{refl, sym, ◌∙◌, subst}
+use mathlib.Core.Path.{refl, subst}
 use native.Mathlib.Omega.{arith}
-use lib.ListN.{length-set}
 use borrow.Author.Rules.{rules}
 use Rattle.search.specs.Plans.{Planned, Focused}
-use Rattle.search.proofs.Steps.{not_found, not_nothing, stops, nothing_kept}
-use Rattle.search.proofs.Leaves.{fewer, longer, not_full, number_low, pow_small, spelled_by, full_by}
+use Rattle.search.proofs.Steps.{not_found, not_nothing, stops}
+use Rattle.search.proofs.Leaves.{fewer, longer, not_full, pow_small, spelled_by, full_by}
 use Rattle.search.specs.AskedLaws.{stands_later}
-use Rattle.search.proofs.Ready.{ready_after, ready_premise, ready_right, ready_again, ready_rules, ready_zones, stands_made, few_lollis, few_after, counted_hits}
-use Rattle.search.proofs.Visits.{one_up, visit_spent, visit_over, visit_hits, visit_stops, visit_files, visit_full, under_stops, under_room, under_found, both_left_stops, both_right_stops, both_room, both_found}
+use Rattle.search.proofs.Ready.{ready_after, ready_premise, ready_right, ready_again, ready_zones, stands_made, few_lollis, few_after}
+use Rattle.search.proofs.Visits.{visit_spent, visit_over, visit_hits, visit_stops, visit_files, visit_full, under_stops, under_found, both_left_stops, both_right_stops, both_found}
 use Rattle.search.proofs.Rules.{place_low, on_empty, on_par_long, on_par, on_bottom, on_top, on_with, on_why_not, on_rest, on_full, on_spelled, spelled_stands, lolli_falls}
-use Rattle.search.proofs.Choices.{sync_stops, sync_goes, exponentials_go, copies_go, choosing_starts, choosing_goes, choosing_stops, choosing_ends, using_starts, using_goes, using_stops, using_ends, taken_long, taken_under}
-use Rattle.search.proofs.Focused.{plus_again, on_axiom, on_one, on_of_course, on_tensor, on_plus, on_nothing, plus_stops, plus_goes, splitting_starts, splitting_goes, splitting_stops, splitting_ends}
+use Rattle.search.proofs.Choices.{sync_stops, sync_goes, exponentials_go, copies_go, choosing_goes, choosing_stops, choosing_ends, using_starts, using_goes, using_stops, using_ends, taken_long, taken_under}
+use Rattle.search.proofs.Focused.{plus_again, on_axiom, on_one, on_of_course, on_tensor, on_plus, plus_stops, plus_goes, splitting_starts, splitting_goes, splitting_stops, splitting_ends}
 use Prim.Native.Nat.{◌-◌}
 use Rattle.search.proofs.Prover.+ring.Goals as goal
 

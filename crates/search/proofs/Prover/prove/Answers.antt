@@ -1,5 +1,4 @@
-use native.Mathlib.Omega.{arith}
-use Rattle.search.proofs.Entry.{ready_start, start_proves}
+use Rattle.search.proofs.Entry.{start_proves}
 use Rattle.search.proofs.Prover.prove.Goals as goal
 
 pub returns : goal.returns

@@ -1,7 +1,6 @@
-use Rattle.search.proofs.Leaves.{axiom_here, not_beside, not_two, other_name, not_neg_atom}
-use mathlib.Core.Path.{ap, subst, ◌∙◌}
+use Rattle.search.proofs.Leaves.{not_beside, not_two, other_name, not_neg_atom}
+use mathlib.Core.Path.{subst}
 use native.Mathlib.Omega.{arith}
-use Rattle.logic.specs.Formula.{NegAtom}
 use Rattle.zones.specs.ZonesLaws.{within_linear}
 use Rattle.memory.specs.Shapes.{ShapeOf}
 use Rattle.search.proofs.plan.axiom_at.Goals as goal

@@ -1,4 +1,4 @@
-use Rattle.search.proofs.Leaves.{passed_next, planned_here, none_first}
+use Rattle.search.proofs.Leaves.{passed_next, planned_here}
 use native.Mathlib.Omega.{arith}
 use Rattle.logic.specs.Built.{none_yet}
 use Rattle.zones.specs.ZonesLaws.{within_linear}

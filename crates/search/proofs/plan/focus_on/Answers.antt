@@ -1,4 +1,4 @@
-use Rattle.search.proofs.Leaves.{linear_here, not_alone_one, two_here, alone_here, not_alone_of_course, not_focused}
+use Rattle.search.proofs.Leaves.{linear_here, not_alone_one, two_here, not_alone_of_course, not_focused}
 use mathlib.Core.Path.{subst, ◌∙◌}
 use Rattle.zones.specs.ZonesLaws.{within_linear}
 use Rattle.memory.specs.Shapes.{ShapeOf}

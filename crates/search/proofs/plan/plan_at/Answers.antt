@@ -1,6 +1,4 @@
-use Rattle.search.proofs.Leaves.{undecomposable, implication_here}
-use mathlib.Core.Path.{refl, subst}
-use Rattle.memory.specs.Shapes.{ShapeOf}
+use Rattle.search.proofs.Leaves.{undecomposable}
 use Rattle.search.proofs.plan.plan_at.Goals as goal
 
 pub returns-in_default : goal.returns-in_default

@@ -1,5 +1,4 @@
-use Rattle.search.proofs.Leaves.{shorter, longer, not_long, premise_dereliction, premise_contraction, premise_weakening}
-use native.Mathlib.Omega.{arith}
+use Rattle.search.proofs.Leaves.{premise_dereliction, premise_contraction, premise_weakening}
 use Rattle.search.proofs.plan.premise.Goals as goal
 
 pub returns-in-Dereliction : goal.returns-in-Dereliction
