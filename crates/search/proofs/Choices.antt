@@ -132,9 +132,6 @@ module _ (left depth : ℕ) {z : Zones} {far at : ℕ} {p : Prover} {c₀ : Coun
   abbrev deep₁ : Sequent → Search
   deep₁ = deeper p left depth
 
-  pub choosing_starts : Choosing left depth z at p c₀ m₀ w₀ 0 c₀ m₀ w₀
-  choosing_starts = record { kept = kept_now ready; goes = each_starts (positive_at deep₁ q₁) q₁.linear refl }
-
   module _ {x : ℕ} {c : Counters} {m w : List ℕ} (i : Choosing left depth z at p c₀ m₀ w₀ x c m w) where
     focused_before : {r : Outcome} {m' w' : List ℕ} → Focuses p left depth z at c m w r m' w' x → Agrees (suc left) q₁ (positive_at deep₁ q₁ (take x q₁.linear) (get_or q₁.linear x formula.One) (drop (suc x) q₁.linear)) at p c m w r m' w'
     focused_before a =

@@ -19,7 +19,7 @@ use Rattle.search.specs.declared.Prover.{Prover}
 use Rattle.search.specs.declared.counters.Counters.{Counters}
 use Rattle.search.specs.declared.Outcome.{Outcome}
 use Rattle.search.specs.Plans.{sequent}
-use Rattle.search.specs.Contract.{Stands, Says, Ready, Visits, counters_of, zeroes}
+use Rattle.search.specs.Contract.{Stands, Says, Visits, counters_of, zeroes}
 use Rattle.search.specs.Asked.{proving, Remembers, Asked, Proves}
 use Rattle.search.specs.AskedLaws.{says_stands}
 
@@ -36,18 +36,6 @@ stands_start : {m : List ℕ} {memory : Memory} → Remembers m memory → Stand
 stands_start k = record { explored = refl; hits = refl; reached = refl; held = k.held; failures = k.failures }
 
 module _ {p : Prover} {z : Zones} {m w : List ℕ} (asked : Asked p z m w) {c : Counters} (e : c ≡ zeroes) where
-  pub ready_start : (far : ℕ) → far ≤ 65 → Ready 0 z far 0 p c m w
-  ready_start far l = rw e record {
-    zones = asked.zones;
-    wf = asked.wf;
-    shallow = l;
-    within = omega arith;
-    small = asked.small;
-    room = asked.room;
-    stack = omega arith;
-    struck = omega arith;
-  }
-
   module _ {r : Outcome} {m' w' : List ℕ} (visits : Visits p (p.limit + 1) 0 z 0 c m w r m' w') where
     from_start : Visits p (suc p.limit) 0 z 0 zeroes m w r m' w'
     from_start = subst (λ (x : Counters). Visits p (suc p.limit) 0 z 0 x m w r m' w') e (subst (λ (n : ℕ). Visits p n 0 z 0 c m w r m' w') (add-one p.limit) visits)

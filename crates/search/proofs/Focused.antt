@@ -28,9 +28,9 @@ use Rattle.search.specs.declared.Prover.{Prover}
 use Rattle.search.specs.declared.counters.Counters.{Counters}
 use Rattle.search.specs.declared.Outcome.{Outcome}
 use Rattle.search.specs.declared.Outcome.TheVariants.{Nothing}
-use Rattle.search.specs.Plans.{sequent, linear_formula, Two, AxiomAt, Alone, AlonePart, Unfocused}
+use Rattle.search.specs.Plans.{sequent, linear_formula, Two, AxiomAt, Alone, AlonePart}
 use Rattle.search.specs.Contract.{deeper, Ready, Agrees, Leaf, Focuses, Splits, Pluses, Puts, PutsBoth}
-use Rattle.search.proofs.Steps.{tag, Kept, Goes, goes_as, holds_grow, of, stops, or_then, nothing_kept, kept_then, done_nothing, leaf_found}
+use Rattle.search.proofs.Steps.{tag, Kept, Goes, holds_grow, of, stops, or_then, nothing_kept, kept_then, leaf_found}
 use Rattle.search.proofs.Leaves.{linear_length}
 use Rattle.search.specs.AskedLaws.{sequent_later, stands_later}
 use Rattle.search.proofs.Ready.{kept_now, kept_sequent, below_explored, stands_made, ready_zones, ready_after}
@@ -105,9 +105,6 @@ module _ (left depth : ℕ) {z : Zones} {far at : ℕ} {p : Prover} {c : Counter
 
     pub on_plus : {a b : ℕ} {r : Outcome} {m' w' : List ℕ} → Two formula.Plus m z i a b → Pluses p left depth z at c m w r m' w' i a b → Focuses p left depth z at c m w r m' w' i
     on_plus {a} {b} t s = at_sign i t.here (plus_clause i (told m a) (told m b)) s
-
-    pub on_nothing : Unfocused m z i → Focuses p left depth z at c m w (Nothing c) m w i
-    on_nothing u = done_nothing (kept_now ready) (below_explored ready) (goes_as (u.none deep))
 
   -- `plus`: left, then right
   module _ {i a b : ℕ} (t : Two formula.Plus m z i a b) where

@@ -7,8 +7,8 @@ use native.Mathlib.Omega.{arith}
 use native.Mathlib.Numerals.{add-one}
 use lib.Dec.{eqb}
 use lib.ListN.{length, get_or, take, drop, length-map, length-append}
-use lib.Seq.{take-suc, take_all, get_or-take}
-use borrow.Author.Tests.{ne_eqb, eqb-false}
+use lib.Seq.{take-suc, get_or-take}
+use borrow.Author.Tests.{ne_eqb}
 use native.Mathlib.Nat.{pow-le-pow_right}
 use Rattle.logic.specs.Formula as formula
 use Rattle.logic.specs.Formula.{Formula, NegAtom, Atom, among}
@@ -26,13 +26,12 @@ use Rattle.memory.specs.declared.shape.Shape.{Shape}
 use Rattle.memory.specs.declared.shape.Shape.TheVariants as shape
 use Rattle.memory.specs.declared.shape.Spelling.{Spelling}
 use Rattle.memory.specs.declared.shape.Spelling.TheVariants.{At, Full}
-use Rattle.memory.specs.Meaning.{told, held_count, Wf}
-use Rattle.memory.specs.Shapes.{OfTwo, OfOne, ShapeOf, Implication, Spelled, NoRoom, SpelledOr}
+use Rattle.memory.specs.Meaning.{told}
+use Rattle.memory.specs.Shapes.{OfTwo, ShapeOf, Spelled, NoRoom, SpelledOr}
 use Rattle.search.specs.declared.plan.Plan.{Plan}
 use Rattle.search.specs.declared.plan.Plan.TheVariants as plan
-use Rattle.search.specs.declared.plan.Exponential.{Exponential}
 use Rattle.search.specs.declared.plan.Exponential.TheVariants.{Dereliction, Contraction, Weakening}
-use Rattle.search.specs.Plans.{sequent, linear_formula, First, NoneFirst, Planned, PlannedAt, Two, AxiomAt, AlonePart, Unfocused, number_of, long, Premise}
+use Rattle.search.specs.Plans.{sequent, linear_formula, First, Planned, PlannedAt, Two, Unfocused, Premise}
 
 -- what stands at a place
 map_here : (f : ℕ → Formula) (xs : List ℕ) (i : ℕ) (d : Formula) → i < length xs → get_or (map f xs) i d ≡ f (get_or xs i 0)
@@ -70,9 +69,6 @@ module _ (m : List ℕ) {z : Zones} (f : Fits z) (i : ℕ) (h : i < z.linear_len
   planned_here (plan.Lolli j y) k o = rw (k.0, k.1.0) record { first = first_is _ refl; implication = k.1.1 }
   planned_here plan.Rest k o = absurd (o refl)
 
-pub none_first : (m : List ℕ) {z : Zones} → Fits z → (n : ℕ) → z.linear_len ≤ n → (z.linear_len ≡ 0 → ⊥) → Passed (take n (sequent m z).linear) → NoneFirst m z
-none_first m {z} f n h ne passed = record { some = omega arith; passed = rw (take_all n (sequent m z).linear (omega (arith, linear_length m f))) at passed }
-
 -- the shapes that are not decomposable
 pub undecomposable : (m : List ℕ) (x : ℕ) (s : Shape) → ShapeOf m x s
     → (s ≡ shape.Bottom → ⊥) → (s ≡ shape.Top → ⊥) → ((a b : ℕ) → s ≡ shape.Par a b → ⊥) → ((a b : ℕ) → s ≡ shape.With a b → ⊥)
@@ -93,9 +89,6 @@ undecomposable m x (shape.OfCourse a) h b t p w l y = rw h.here
 undecomposable m x (shape.WhyNot a) h b t p w l y = absurd (y a refl)
 
 -- an implication
-pub implication_here : (m : List ℕ) (x : ℕ) (a b : ℕ) → Wf m → x < held_count m → ShapeOf m x (shape.Lolli a b) → Implication m x
-implication_here m x a b w l h = record { wf = w; low = l; left = told m a; right = told m b; here = h.here }
-
 -- what focusing gives: at an atom, beside which its negation must stand alone
 module _ (m : List ℕ) {z : Zones} (f : Fits z) (i : ℕ) (h : i < z.linear_len) where
   abbrev Γ : List Formula
@@ -134,9 +127,6 @@ module _ (m : List ℕ) {z : Zones} (f : Fits z) (i : ℕ) (h : i < z.linear_len
   not_beside name e two k =
       no_axiom name e (ap (λ (l : List Formula). among (NegAtom name) l && eqb (length Γ) 2) (beside two) ∙ unfold among in rw (among, different_same (NegAtom name) _ λ j. k (sym j)))
 
-  pub axiom_here : (name : ℕ) → linear_formula m z i ≡ Atom name → z.linear_len ≡ 2 → told m (get_or z.linear (1 - i) 0) ≡ NegAtom name → AxiomAt m z i
-  axiom_here name e two k = record { name = name; here = e; beside = beside two ∙ ap (λ (g : Formula). g ∷ []) k }
-
   -- at a formula that must stand alone
   pub not_alone_one : linear_formula m z i ≡ formula.One → (z.linear_len ≡ 1 → ⊥) → Unfocused m z i
   not_alone_one e k = record { none = λ deeper. ap (λ (g : Formula). prove_focused deeper (sequent m z) (take i Γ) g (drop (suc i) Γ)) e ∙ unfold prove_focused when◌then◌else◌ in rw (ne_eqb (length Γ) 1 (λ j. k (sym (linear_length m f) ∙ j))) }
@@ -147,9 +137,6 @@ module _ (m : List ℕ) {z : Zones} (f : Fits z) (i : ℕ) (h : i < z.linear_len
   -- at a formula that is focused on
   pub two_here : (sign : Formula → Formula → Formula) (a b : ℕ) → OfTwo m (get_or z.linear i 0) sign a b → Two sign m z i a b
   two_here sign a b k = record { place = h; here = linear_here m f i h ∙ k.here; left = k.left; right = k.right }
-
-  pub alone_here : (a : ℕ) → OfOne m (get_or z.linear i 0) formula.OfCourse a → z.linear_len ≡ 1 → AlonePart m z i a
-  alone_here a k e = record { only = record { here = linear_here m f i h ∙ k.here; alone = e }; part = k.part }
 
   -- at any other formula that is not focused on
   other : (g : Formula) → linear_formula m z i ≡ g → ((deeper : Sequent → Search) → prove_focused deeper (sequent m z) (take i Γ) g (drop (suc i) Γ) ≡ logic.answer logic.nothing) → Unfocused m z i
@@ -193,20 +180,9 @@ pub other_name : (m : List ℕ) (x a name : ℕ) → told m x ≡ NegAtom a → 
 other_name m x a name h d e = d (let k : NegAtom a ≡ NegAtom name = sym h ∙ e in cc)
 
 -- the premises of the rules on the unrestricted zone
-pub long_other : (e : Exponential) (z : Zones) → (e ≡ Contraction → ⊥) → false ≡ long e z
-long_other Dereliction z o = refl
-long_other Contraction z o = absurd (o refl)
-long_other Weakening z o = refl
-
 -- one formula more
 pub longer : {z y : Zones} {a : ℕ} → Fits z → Made z (pushed a) y → (y.linear_len ≡ z.linear_len + 1) × (y.unrestricted_len ≡ z.unrestricted_len)
 longer {z} {y} {a} f m = (m.linear_count ∙ length-append (linears z) (a ∷ []) ∙ ap (λ (n : ℕ). n + 1) (linears_length f), m.unrestricted_count ∙ unrestricteds_length f)
-
-pub not_long : (e : Exponential) {z : Zones} → Fits z → e ≡ Contraction → long e z ≡ false → z.linear_len + z.unrestricted_len < 31
-not_long e {z} f k h =
-    let g : eqb (z.linear_len + z.unrestricted_len) 31 ≡ false = rw k at h in
-    let d : z.linear_len + z.unrestricted_len ≡ 31 → ⊥ = eqb-false _ 31 g in
-    omega (arith, f.few)
 
 -- the number of masks
 pub pow_small : (k : ℕ) → k ≤ 30 → 2 ^ k ≤ 1073741824
@@ -251,11 +227,6 @@ fewer {z} {y} {i} f h m =
 
 pub not_full : {z : Zones} {k : ℕ} → Fits z → k ≡ length (linears z) + length (unrestricteds z) → (k ≡ 31 → ⊥) → z.linear_len + z.unrestricted_len < 31
 not_full {z} {k} f e h = omega (arith, linears_length f, unrestricteds_length f, f.few)
-
-pub number_low : (e : Exponential) → number_of e < 32
-number_low Dereliction = omega arith
-number_low Contraction = omega arith
-number_low Weakening = omega arith
 
 -- an answer of `spell`, by its case
 pub spelled_by : (m : List ℕ) (f : Formula) (m' : List ℕ) {g : Spelling} {i : ℕ} → g ≡ At i → SpelledOr m f g m' → Spelled m f i m'

@@ -177,21 +177,6 @@ module _ {z : Zones} {far at : ℕ} {p : Prover} {c : Counters} {m w : List ℕ}
     struck = omega arith;
   }
 
-  pub ready_rules : (far' : ℕ) → far' ≤ far → Ready 1 z far' at p c₂ m w
-  ready_rules far' l = rw counted_is record {
-    zones = ready.zones;
-    wf = ready.wf;
-    shallow = omega (arith, ready.shallow);
-    within = omega arith;
-    small = ready.small;
-    room = ready.room;
-    stack = omega (arith, ready.stack);
-    struck = omega (arith, ready.struck);
-  }
-
-  pub counted_hits : c₂.hits < 16384
-  counted_hits = rw counted_is (omega (arith, ready.struck, ready.small))
-
 -- the memory after a record
 pub kept_memory : {at : ℕ} {p : Prover} {c c' : Counters} {m w m' w' m'' : List ℕ} → Kept at p c m w c' m' w' → Wf m'' → Grew m' m'' → Kept at p c m w c' m'' w'
 kept_memory k f g = record {

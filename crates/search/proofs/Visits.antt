@@ -6,11 +6,10 @@ use Prim.Native.Nat.{ℕ, zero, suc, ◌+◌, ◌-◌, ◌≤◌, ◌<◌}
 use native.Mathlib.Omega.{arith}
 use native.Mathlib.Numerals.{add-one}
 use types.Run.{OneOf}
-use lib.ListN.{length, set}
+use lib.ListN.{set}
 use Rattle.logic.specs.Sequent.{Sequent, count}
 use Rattle.logic.specs.Answer as answer
 use Rattle.logic.specs.Key.{sequent_key}
-use Rattle.logic.specs.Tree.{Blur}
 use Rattle.logic.specs.Outcome.{Search, ◌or_else◌}
 use Rattle.zones.specs.declared.Zones.{Zones}
 use Rattle.memory.specs.Meaning.{told, failed, StandsIn, key_of}
@@ -25,7 +24,7 @@ use Rattle.search.specs.declared.Outcome.TheVariants.{Found, Nothing, Refused}
 use Rattle.search.specs.Walk.{rules, filing, seen}
 use Rattle.search.specs.Plans.{sequent}
 use Rattle.search.specs.Contract.{visiting, Ready, Agrees, FiledOr, Visits, Decomposes, Puts, PutsBoth, deeper, counted, reached_at, struck}
-use Rattle.search.proofs.Steps.{tag, Kept, Goes, goes_then, rebase, stops, nothing_goes, nothing_kept, kept_then, done_nothing, done_refused, one_stops, one_found, two_stops, right_stops, two_found, room_below, room_below_both}
+use Rattle.search.proofs.Steps.{tag, Kept, Goes, goes_then, rebase, stops, nothing_goes, nothing_kept, kept_then, done_nothing, done_refused, one_stops, one_found, two_stops, right_stops, two_found}
 use Rattle.search.proofs.Turns.{count_meant, goes_spent, goes_over, goes_hit, goes_searched, goes_recorded, goes_full, goes_unfiled}
 use Rattle.search.specs.AskedLaws.{sequent_later}
 use Rattle.search.proofs.Ready.{kept_now, below_explored, kept_counted, kept_struck, counted_is, kept_memory}
@@ -115,9 +114,6 @@ module _ (left depth : ℕ) {y : Zones} {far at : ℕ} {p : Prover} {c : Counter
   pub under_stops : OneOf (1 ∷ 2 ∷ []) (tag r) → Puts p left depth y at c m w r m' w' x
   under_stops o = record { over = λ q rule held k. one_stops left (sequent m y) at q rule down (below_explored ready) o }
 
-  pub under_room : {end : ℕ} {d : Counters} → r ≡ Found end d → at < length w'
-  under_room e = room_below left (sequent m y) at (sequent m y) Blur down e ready.room
-
   pub under_found : {end : ℕ} {d : Counters} → r ≡ Found end d → Puts p left depth y at c m w (Found end d) m' (set w' at x) x
   under_found e = record { over = λ q rule held k. one_found left (sequent m y) at q rule down e ready.room x held k }
 
@@ -134,9 +130,6 @@ module _ (left depth : ℕ) {y : Zones} {far at : ℕ} {p : Prover} {c : Counter
 
     pub both_right_stops : OneOf (1 ∷ 2 ∷ []) (tag r') → PutsBoth p left depth y at c m w r' m'' w'' x u
     both_right_stops o = record { over = λ q rule held k. right_stops left (sequent m y) (sequent m u) at mid q rule down e right (below_explored ready) o }
-
-    pub both_room : {end : ℕ} {d : Counters} → r' ≡ Found end d → at < length w''
-    both_room e' = room_below_both left (sequent m y) (sequent m u) at mid (sequent m y) Blur down e right e' ready.room
 
     pub both_found : {end : ℕ} {d : Counters} → r' ≡ Found end d → PutsBoth p left depth y at c m w (Found end d) m'' (set w'' at x) x u
     both_found e' = record { over = λ q rule held k. two_found left (sequent m y) (sequent m u) at mid q rule down e right e' ready.room x held k }
