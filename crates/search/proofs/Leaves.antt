@@ -4,6 +4,7 @@ use mathlib.Core.Bool.{Bool, true, false, ◌&&◌}
 use mathlib.Core.List.{List, [], ◌∷◌, map}
 use Prim.Native.Nat.{ℕ, zero, suc, ◌+◌, ◌-◌, ◌^◌, ◌≤◌, ◌<◌}
 use native.Mathlib.Omega.{arith}
+use Rattle.std.proofs.Common.{Option, Some, None}
 use native.Mathlib.Numerals.{add-one}
 use lib.Dec.{eqb}
 use lib.ListN.{length, get_or, take, drop, length-map, length-append}
@@ -24,8 +25,6 @@ use Rattle.zones.specs.Zones.{Fits, Made, remove, meant, linears, unrestricteds,
 use Rattle.zones.specs.ZonesLaws.{linears_length, unrestricteds_length, meant_made, meant_copied, meant_copied_two, within_made, within_unrestricted, remove_length}
 use Rattle.memory.specs.declared.shape.Shape.{Shape}
 use Rattle.memory.specs.declared.shape.Shape.TheVariants as shape
-use Rattle.memory.specs.declared.shape.Spelling.{Spelling}
-use Rattle.memory.specs.declared.shape.Spelling.TheVariants.{At, Full}
 use Rattle.memory.specs.Meaning.{told}
 use Rattle.memory.specs.Shapes.{OfTwo, ShapeOf, Spelled, NoRoom, SpelledOr}
 use Rattle.search.specs.declared.plan.Plan.{Plan}
@@ -229,8 +228,8 @@ pub not_full : {z : Zones} {k : ℕ} → Fits z → k ≡ length (linears z) + l
 not_full {z} {k} f e h = omega (arith, linears_length f, unrestricteds_length f, f.few)
 
 -- an answer of `spell`, by its case
-pub spelled_by : (m : List ℕ) (f : Formula) (m' : List ℕ) {g : Spelling} {i : ℕ} → g ≡ At i → SpelledOr m f g m' → Spelled m f i m'
-spelled_by m f m' e s = subst (λ (x : Spelling). SpelledOr m f x m') e s
+pub spelled_by : (m : List ℕ) (f : Formula) (m' : List ℕ) {g : Option ℕ} {i : ℕ} → g ≡ Some i → SpelledOr m f g m' → Spelled m f i m'
+spelled_by m f m' e s = subst (λ (x : Option ℕ). SpelledOr m f x m') e s
 
-pub full_by : (m : List ℕ) (f : Formula) (m' : List ℕ) {g : Spelling} → g ≡ Full → SpelledOr m f g m' → NoRoom m f m'
-full_by m f m' e s = subst (λ (x : Spelling). SpelledOr m f x m') e s
+pub full_by : (m : List ℕ) (f : Formula) (m' : List ℕ) {g : Option ℕ} → g ≡ None → SpelledOr m f g m' → NoRoom m f m'
+full_by m f m' e s = subst (λ (x : Option ℕ). SpelledOr m f x m') e s

@@ -14,7 +14,7 @@ use super::plan::{
 use super::{Outcome, Prover};
 use formula::Refusal;
 use memory::failed::{known, record_failure};
-use memory::shape::{Spelling, spell};
+use memory::shape::spell;
 use zones::Zones;
 
 // A node without premises.
@@ -150,8 +150,7 @@ impl Prover {
         requires { (Ready 1 z (depth + (left + 1)) at self c mem.old work.old) × FirstLolli mem.old z i x }
         ensures { Decomposes self left depth z at c mem.old work.old result mem.new work.new }
     {
-        let g = spell(mem, x);
-        let Spelling::At(y) = g else {
+        let Some(y) = spell(mem, x) else {
             return Outcome::Refused(Refusal::HeldFull, c);
         };
         self.visit(z.replaced(i, y), left + 1, depth, at, c, mem, work)

@@ -151,13 +151,13 @@ pub prove_sync-returns : goal.prove_sync-returns
 prove_sync-returns t c = sync_goes c.args.left c.args.depth c.requires c.positives-a.ensures c.in-Nothing.is c.exponentials.ensures
 
 pub spelled-returns-in_default : goal.spelled-returns-in_default
-spelled-returns-in_default t c = on_full c.args.left c.args.depth c.requires.0 c.requires.1 (full_by _ _ _ c.in_default.is c.spell-g.ensures)
+spelled-returns-in_default t c = on_full c.args.left c.args.depth c.requires.0 c.requires.1 (full_by _ _ _ c.in_default.is c.spell.ensures)
 
 pub spelled-visit-requires : goal.spelled-visit-requires
-spelled-visit-requires t c = (omega (arith, lolli_falls c.args.left c.args.depth c.requires.0 c.requires.1 (spelled_by _ _ _ c.in-At.is c.spell-g.ensures) c.replaced.ensures), ready_again c.requires.0 (spelled_by _ _ _ c.in-At.is c.spell-g.ensures).grew (spelled_by _ _ _ c.in-At.is c.spell-g.ensures).wf (spelled_stands c.args.left c.args.depth c.requires.0 c.requires.1 (spelled_by _ _ _ c.in-At.is c.spell-g.ensures) c.replaced.ensures))
+spelled-visit-requires t c = (omega (arith, lolli_falls c.args.left c.args.depth c.requires.0 c.requires.1 (spelled_by _ _ _ c.in-Some.is c.spell.ensures) c.replaced.ensures), ready_again c.requires.0 (spelled_by _ _ _ c.in-Some.is c.spell.ensures).grew (spelled_by _ _ _ c.in-Some.is c.spell.ensures).wf (spelled_stands c.args.left c.args.depth c.requires.0 c.requires.1 (spelled_by _ _ _ c.in-Some.is c.spell.ensures) c.replaced.ensures))
 
 pub spelled-returns : goal.spelled-returns
-spelled-returns t c = on_spelled c.args.left c.args.depth c.requires.0 c.requires.1 (spelled_by _ _ _ c.in-At.is c.spell-g.ensures) c.replaced.ensures c.visit.ensures
+spelled-returns t c = on_spelled c.args.left c.args.depth c.requires.0 c.requires.1 (spelled_by _ _ _ c.in-Some.is c.spell.ensures) c.replaced.ensures c.visit.ensures
 
 pub taken-returns-then-too_long : goal.taken-returns-then-too_long
 taken-returns-then-too_long t c = taken_long c.args.rule c.args.left c.args.depth c.requires.0 c.requires.1 c.too_long.ensures c.if-too_long.true
