@@ -1,4 +1,5 @@
 -- What each step of reading a short tree adds: a node's own bytes, its premises, and the message around the root.
+use Rattle.std.specs.Prelude.{Err, Ok, Result}
 use mathlib.Core.Path.{◌≡◌, refl, sym, ap, ◌∙◌}
 use mathlib.Core.Bool.{Bool, true, false}
 use mathlib.Core.List.{List, [], ◌∷◌}
@@ -15,7 +16,6 @@ use Rattle.wire.specs.Read.{Read, got, refused, ◌then◌, unless, entry, read_
 use Rattle.formula.specs.Answers.{coded, reads}
 use Rattle.formula.specs.declared.Refusal.{Refusal}
 use Rattle.formula.specs.declared.Refusal.TheVariants.{WrongNumber, WrongLength, TooHigh}
-use Rattle.formula.specs.declared.Read.TheVariants as read
 use Rattle.tree.specs.EndsLaws.{LeavesEnd}
 use Rattle.tree.specs.ReadingLaws.{Landed, reads_next, two_there, two_read}
 use Rattle.short.specs.Short.{Short, Shorts, short, □, ◌▸◌, follow}
@@ -25,8 +25,6 @@ use Rattle.short_bytes.proofs.ShortBytes.{read_message_two_is}
 use Rattle.short_read.specs.Reading.{premises_by, node_bytes, short_read, HeadThere, HeadRead}
 use Rattle.short_read.specs.EndsLaws.{short_ends}
 use Rattle.short_read.specs.RuleLaws.{RuleThere, rule_refused, rule_there}
-use Rattle.short_read.specs.declared.Subtree.{Subtree}
-use Rattle.short_read.specs.declared.Subtree.TheVariants as subtree
 
 -- ---- a node's own bytes
 
@@ -73,7 +71,7 @@ place_mask true s at inside h =
     }
 
 module _ (s : List ℕ) (at levels : ℕ) where
-  pub head_none : at ≡ length s → HeadRead s at levels (subtree.Refused WrongLength)
+  pub head_none : at ≡ length s → HeadRead s at levels (Err WrongLength)
   unfolding coded read_short_node read_byte ◌then◌
   head_none e = record { kind = answer.wrong_length; is = rw (e, drop-length s) (no_byte levels); code = refl }
     where
@@ -82,7 +80,7 @@ module _ (s : List ℕ) (at levels : ℕ) where
       no_byte (suc levels) = refl
 
   module _ (inside : at < length s) where
-    pub head_too_high : levels ≡ 0 → HeadRead s at levels (subtree.Refused TooHigh)
+    pub head_too_high : levels ≡ 0 → HeadRead s at levels (Err TooHigh)
     unfolding coded read_short_node read_byte ◌then◌
     head_too_high e = record { kind = answer.too_high; is = rw (e, byte_there s at inside); code = refl }
 
@@ -94,7 +92,7 @@ module _ (s : List ℕ) (at levels : ℕ) where
           let e : levels ≡ suc (levels - 1) = omega arith in
           ap (λ (l : ℕ). read_short_node l (drop at s)) e ∙ rw (byte_there s at inside)
 
-      pub head_unknown : {n : ℕ} → n ≡ premises_by (get_or s at 0) → n ≡ 3 → HeadRead s at levels (subtree.Refused WrongNumber)
+      pub head_unknown : {n : ℕ} → n ≡ premises_by (get_or s at 0) → n ≡ 3 → HeadRead s at levels (Err WrongNumber)
       unfolding coded
       head_unknown e n =
           record { kind = answer.wrong_number; is = by_rule ∙ rule_refused (get_or s at 0) (λ r. behind (levels - 1) r (drop (at + 1) s)) (sym e ∙ n); code = refl }
@@ -128,7 +126,7 @@ module _ (s : List ℕ) (at levels : ℕ) where
             long false = omega arith
 
         module _ {m : ℕ} (e' : m ≡ node_bytes (get_or s at 0)) where
-          pub head_short : length s - at < m → HeadRead s at levels (subtree.Refused WrongLength)
+          pub head_short : length s - at < m → HeadRead s at levels (Err WrongLength)
           unfolding coded
           head_short h =
               record {
@@ -137,29 +135,29 @@ module _ (s : List ℕ) (at levels : ℕ) where
                 code = refl;
               }
 
-          pub head_next : m ≤ length s - at → HeadRead s at levels (subtree.Next (at + m))
+          pub head_next : m ≤ length s - at → HeadRead s at levels (Ok (at + m))
           head_next h = rw e' (own_there (rw e' at h))
 
 -- ---- a node and its premises
 
 -- an answer without value is handed on
-pub refused_on : (s : List ℕ) (at levels : ℕ) (x : Subtree) {why : Refusal} → HeadRead s at levels x → x ≡ subtree.Refused why
+pub refused_on : (s : List ℕ) (at levels : ℕ) (x : Result ℕ Refusal) {why : Refusal} → HeadRead s at levels x → x ≡ Err why
     → x ≡ short_read (length s) (read_short_node levels (drop at s))
 unfolding short_read
-refused_on s at levels (subtree.Next n) h e = let z : ◌≡◌ {A = ℕ} 0 1 = cc in absurd (omega arith)
-refused_on s at levels (subtree.Refused why) h e = rw (h.is, h.code)
+refused_on s at levels (Ok n) h e = let z : ◌≡◌ {A = ℕ} 0 1 = cc in absurd (omega arith)
+refused_on s at levels (Err why) h e = rw (h.is, h.code)
 
-pub head_there : {s : List ℕ} {at levels : ℕ} (x : Subtree) {next : ℕ} → HeadRead s at levels x → x ≡ subtree.Next next → HeadThere s at levels next
-head_there (subtree.Next n) {next} h e = let same : n ≡ next = cc in rw same at h
-head_there (subtree.Refused why) h e = let z : ◌≡◌ {A = ℕ} 0 1 = cc in absurd (omega arith)
+pub head_there : {s : List ℕ} {at levels : ℕ} (x : Result ℕ Refusal) {next : ℕ} → HeadRead s at levels x → x ≡ Ok next → HeadThere s at levels next
+head_there (Ok n) {next} h e = let same : n ≡ next = cc in rw same at h
+head_there (Err why) h e = let z : ◌≡◌ {A = ℕ} 0 1 = cc in absurd (omega arith)
 
 -- a place that was answered: the rest of the bytes is left over there
-pub landed : (s : List ℕ) (at : ℕ) → at ≤ length s → (m : Read Short) {x : Subtree} {next : ℕ} → LeavesEnd (drop at s) m → x ≡ short_read (length s) m
-    → x ≡ subtree.Next next → Landed s at m next (λ t. Unit {0})
+pub landed : (s : List ℕ) (at : ℕ) → at ≤ length s → (m : Read Short) {x : Result ℕ Refusal} {next : ℕ} → LeavesEnd (drop at s) m → x ≡ short_read (length s) m
+    → x ≡ Ok next → Landed s at m next (λ t. Unit {0})
 unfolding short_read reads
 landed s at inside (got t rest) {next = next} ends e₁ e₂ =
     let n : length s - length rest ≡ next = cc in
-    reads_next s at inside (got t rest) ends refl (ap read.Next n)
+    reads_next s at inside (got t rest) ends refl (ap Ok n)
 landed s at inside (refused k) ends e₁ e₂ = let z : ◌≡◌ {A = ℕ} 0 1 = cc in absurd (omega arith)
 
 -- the last premise's answer is the node's, and so is a refusal of the first
@@ -169,8 +167,8 @@ unfolding short_read ◌then◌
 last_read end (got t rest) f g = refl
 last_read end (refused k) f g = refl
 
-first_refused : (end : ℕ) (m : Read Short) (k : Short → List ℕ → Read Shorts) (f : Shorts → Short) {x : Subtree} {why : Refusal}
-    → x ≡ short_read end m → x ≡ subtree.Refused why → x ≡ short_read end ((m then k) then λ ss bs. got (f ss) bs)
+first_refused : (end : ℕ) (m : Read Short) (k : Short → List ℕ → Read Shorts) (f : Shorts → Short) {x : Result ℕ Refusal} {why : Refusal}
+    → x ≡ short_read end m → x ≡ Err why → x ≡ short_read end ((m then k) then λ ss bs. got (f ss) bs)
 unfolding short_read ◌then◌
 first_refused end (got t rest) k f e₁ e₂ = let z : ◌≡◌ {A = ℕ} 0 1 = cc in absurd (omega arith)
 first_refused end (refused why) k f e₁ e₂ = e₁
@@ -182,13 +180,13 @@ second_read end (got t₂ rest) t f = refl
 second_read end (refused k) t f = refl
 
 module _ {s : List ℕ} {at levels next : ℕ} (h : HeadThere s at levels next) where
-  pub node_leaf : premises_by (get_or s at 0) ≡ 0 → subtree.Next next ≡ short_read (length s) (read_short_node levels (drop at s))
+  pub node_leaf : premises_by (get_or s at 0) ≡ 0 → Ok next ≡ short_read (length s) (read_short_node levels (drop at s))
   unfolding short_read read_short_premises ◌then◌
   node_leaf e =
       let n : next ≡ length s - length (drop next s) = rw length-drop (omega (arith, h.inside)) in
-      rw (h.by_premises, e) (ap subtree.Next n)
+      rw (h.by_premises, e) (ap Ok n)
 
-  module _ {x : Subtree} (e₁ : x ≡ short_read (length s) (read_short_node (levels - 1) (drop next s))) where
+  module _ {x : Result ℕ Refusal} (e₁ : x ≡ short_read (length s) (read_short_node (levels - 1) (drop next s))) where
     pub node_one : premises_by (get_or s at 0) ≡ 1 → x ≡ short_read (length s) (read_short_node levels (drop at s))
     unfolding read_short_premises ◌then◌
     node_one e =
@@ -203,14 +201,14 @@ module _ {s : List ℕ} {at levels next : ℕ} (h : HeadThere s at levels next) 
       unfolding read_short_premises ◌then◌
       by_two = let e : premises_by (get_or s at 0) ≡ 2 = omega (arith, h.few) in rw (h.by_premises, e)
 
-      pub node_first_refused : {why : Refusal} → x ≡ subtree.Refused why → x ≡ short_read (length s) (read_short_node levels (drop at s))
+      pub node_first_refused : {why : Refusal} → x ≡ Err why → x ≡ short_read (length s) (read_short_node levels (drop at s))
       node_first_refused e₂ = rw by_two (first_refused (length s) (read_short_node (levels - 1) (drop next s)) _ _ e₁ e₂)
 
-      module _ {second : ℕ} (e₂ : x ≡ subtree.Next second) where
+      module _ {second : ℕ} (e₂ : x ≡ Ok second) where
         pub first_landed : Landed s next (read_short_node (levels - 1) (drop next s)) second (λ t. Unit {0})
         first_landed = landed s next h.inside (read_short_node (levels - 1) (drop next s)) (short_ends (levels - 1) (drop next s)) e₁ e₂
 
-        pub node_two : {y : Subtree} → y ≡ short_read (length s) (read_short_node (levels - 1) (drop second s))
+        pub node_two : {y : Result ℕ Refusal} → y ≡ short_read (length s) (read_short_node (levels - 1) (drop second s))
             → y ≡ short_read (length s) (read_short_node levels (drop at s))
         unfolding ◌then◌
         node_two e₃ =
@@ -219,14 +217,14 @@ module _ {s : List ℕ} {at levels next : ℕ} (h : HeadThere s at levels next) 
 
 -- ---- a message
 
-refused_over : (end : ℕ) (m : Read Short) (k : Short → List ℕ → Read Short) {x : Subtree} {why : Refusal} → x ≡ short_read end m → x ≡ subtree.Refused why
+refused_over : (end : ℕ) (m : Read Short) (k : Short → List ℕ → Read Short) {x : Result ℕ Refusal} {why : Refusal} → x ≡ short_read end m → x ≡ Err why
     → x ≡ short_read end (m then k)
 unfolding short_read ◌then◌
 refused_over end (got t rest) k e₁ e₂ = let z : ◌≡◌ {A = ℕ} 0 1 = cc in absurd (omega arith)
 refused_over end (refused why) k e₁ e₂ = e₁
 
 module _ (s : List ℕ) where
-  pub short_cut : length s < 3 → subtree.Refused WrongLength ≡ short_read (length s) (read_short s)
+  pub short_cut : length s < 3 → Err WrongLength ≡ short_read (length s) (read_short s)
   unfolding short_read read_short ◌then◌ coded
   short_cut h = rw (read_message_two_is s, lt-leb 3 (length s) h)
 
@@ -240,35 +238,35 @@ module _ (s : List ℕ) where
     unfolding read_byte read_two ◌then◌
     version = read_message_two_is s ∙ rw (le-leb 3 (length s) three, byte_there s 0 (omega arith), body)
 
-    pub short_version : (get_or s 0 0 ≡ 2 → ⊥) → subtree.Refused WrongNumber ≡ short_read (length s) (read_short s)
+    pub short_version : (get_or s 0 0 ≡ 2 → ⊥) → Err WrongNumber ≡ short_read (length s) (read_short s)
     unfolding short_read read_short ◌then◌ coded
     short_version h = rw (version, ne_eqb (get_or s 0 0) 2 h)
 
     module _ (two : get_or s 0 0 ≡ 2) {n : ℕ} (e : n ≡ get_or s 1 0 * 256 + get_or s 2 0) where
-      pub short_length : (length s - 3 ≡ n → ⊥) → subtree.Refused WrongLength ≡ short_read (length s) (read_short s)
+      pub short_length : (length s - 3 ≡ n → ⊥) → Err WrongLength ≡ short_read (length s) (read_short s)
       unfolding short_read read_short ◌then◌ coded
       short_length h = rw (version, eq-eqb (get_or s 0 0) 2 two, ← e, ne_eqb (length (drop 3 s)) n (rw length-drop h))
 
-      module _ (fits : length s - 3 ≡ n) {x : Subtree} (e₁ : x ≡ short_read (length s) (read_short_node highest_tree (drop 3 s))) where
+      module _ (fits : length s - 3 ≡ n) {x : Result ℕ Refusal} (e₁ : x ≡ short_read (length s) (read_short_node highest_tree (drop 3 s))) where
         by_node : read_short s ≡ (read_short_node highest_tree (drop 3 s) then λ t rest. at_end t rest)
         unfolding read_short ◌then◌
         by_node = rw (version, eq-eqb (get_or s 0 0) 2 two, ← e, eq-eqb (length (drop 3 s)) n (rw length-drop fits))
 
-        pub short_root_refused : {why : Refusal} → x ≡ subtree.Refused why → x ≡ short_read (length s) (read_short s)
+        pub short_root_refused : {why : Refusal} → x ≡ Err why → x ≡ short_read (length s) (read_short s)
         short_root_refused e₂ = rw by_node (refused_over (length s) (read_short_node highest_tree (drop 3 s)) (λ t rest. at_end t rest) e₁ e₂)
 
-        module _ {next : ℕ} (e₂ : x ≡ subtree.Next next) where
+        module _ {next : ℕ} (e₂ : x ≡ Ok next) where
           root : Landed s 3 (read_short_node highest_tree (drop 3 s)) next (λ t. Unit {0})
           root = landed s 3 three (read_short_node highest_tree (drop 3 s)) (short_ends highest_tree (drop 3 s)) e₁ e₂
 
-          pub short_left_over : next < length s → subtree.Refused WrongLength ≡ short_read (length s) (read_short s)
+          pub short_left_over : next < length s → Err WrongLength ≡ short_read (length s) (read_short s)
           unfolding short_read at_end ◌then◌ coded
           short_left_over h = rw (by_node, root.is, byte_there s next h)
 
-          pub short_whole : length s ≤ next → subtree.Next next ≡ short_read (length s) (read_short s)
+          pub short_whole : length s ≤ next → Ok next ≡ short_read (length s) (read_short s)
           unfolding short_read at_end ◌then◌
           short_whole h =
               let n : next ≡ length s = omega (arith, root.inside) in
               let none_left : drop next s ≡ [] = ap (λ (k : ℕ). drop k s) n ∙ drop-length s in
               let k : length s ≡ length s - 0 = omega arith in
-              rw (by_node, root.is, none_left) (ap subtree.Next (n ∙ k))
+              rw (by_node, root.is, none_left) (ap Ok (n ∙ k))

@@ -1,13 +1,12 @@
 -- What reading a short tree answers: a place in the place of a value, and the code's refusals. Assumes nothing: these are definitions.
-use Rattle.std.specs.Prelude.{◌≡◌, true, false, List, [], ◌∷◌, ℕ, ◌+◌, ◌*◌, ◌-◌, ◌≤◌, ◌<◌, eqb, length, get_or, drop}
+use Rattle.formula.specs.declared.Refusal.{Refusal}
+use Rattle.std.specs.Prelude.{◌≡◌, true, false, List, [], ◌∷◌, ℕ, ◌+◌, ◌*◌, ◌-◌, ◌≤◌, ◌<◌, eqb, length, get_or, drop, Err, Ok, Result}
 use Rattle.logic.specs.Tree.{Rule}
 use Rattle.wire.specs.Read.{Read, got, refused, ◌then◌}
 use Rattle.formula.specs.Answers.{coded}
 use Rattle.tree.specs.ReadingLaws.{RefusedBy}
 use Rattle.short.specs.Short.{Short, short}
 use Rattle.short_bytes.specs.Read.{read_short_premises, read_short_node}
-use Rattle.short_read.specs.declared.Subtree.{Subtree}
-use Rattle.short_read.specs.declared.Subtree.TheVariants as subtree
 
 -- how many premises follow a rule, by its number; 3 where it has no short form
 abbrev pub premise_counts : List ℕ
@@ -25,9 +24,9 @@ abbrev pub four : List ℕ → ℕ → ℕ
 four s at = (get_or s at 0 * 256 + get_or s (at + 1) 0) * 65536 + (get_or s (at + 2) 0 * 256 + get_or s (at + 2 + 1) 0)
 
 -- the place after what was read, in bytes that end at `end`
-unfoldable pub short_read : (end : ℕ) → Read Short → Subtree
-short_read end (got t rest) = subtree.Next (end - length rest)
-short_read end (refused k) = subtree.Refused (coded k)
+unfoldable pub short_read : (end : ℕ) → Read Short → Result ℕ Refusal
+short_read end (got t rest) = Ok (end - length rest)
+short_read end (refused k) = Err (coded k)
 
 -- a node whose own bytes were read: its premises are read from `next` on
 pub record HeadThere (s : List ℕ) (at levels next : ℕ) : Type 0 where
@@ -42,6 +41,6 @@ pub record HeadThere (s : List ℕ) (at levels next : ℕ) : Type 0 where
       ≡ (read_short_premises (read_short_node (levels - 1)) (premises_by (get_or s at 0)) (drop next s) then λ ss bs. got (short rule place mask ss) bs)
 
 -- what reading a node's own bytes answers
-abbrev pub HeadRead : (s : List ℕ) (at levels : ℕ) → Subtree → Type 0
-HeadRead s at levels (subtree.Next next) = HeadThere s at levels next
-HeadRead s at levels (subtree.Refused why) = RefusedBy (read_short_node levels (drop at s)) why
+abbrev pub HeadRead : (s : List ℕ) (at levels : ℕ) → Result ℕ Refusal → Type 0
+HeadRead s at levels (Ok next) = HeadThere s at levels next
+HeadRead s at levels (Err why) = RefusedBy (read_short_node levels (drop at s)) why

@@ -1,6 +1,6 @@
 -- What a message that was read as a short tree holds: its root behind version and length, and at each node's place its rule, place, mask and premises.
 -- Assumes nothing.
-use Rattle.std.specs.Prelude.{◌≡◌, refl, Bool, true, false, eqb, get_or}
+use Rattle.std.specs.Prelude.{◌≡◌, refl, Bool, true, false, eqb, get_or, Err, Ok, Result}
 use Rattle.std.proofs.Math.Path.{sym, ap, subst}
 use Rattle.std.proofs.Common.{◌∙◌, arith, eq-eqb, ne_eqb}
 use mathlib.Core.List.{List, [], ◌∷◌, ◌++◌, append-nil}
@@ -42,17 +42,15 @@ use Rattle.short_bytes.specs.Fits.{HasShort, MaskFits, ShortNodeFits}
 use Rattle.short_bytes.proofs.ShortBytes.{write_read_short}
 use Rattle.short_read.specs.Reading.{premises_by, four, short_read}
 use Rattle.short_read.specs.Places.{Got, RootThere, NodeThere, OneThere, TwoThere}
-use Rattle.short_read.specs.declared.Subtree.{Subtree}
-use Rattle.short_read.specs.declared.Subtree.TheVariants as subtree
 
 -- ---- the answer of reading
 
-pub short_got : (end : ℕ) (m : Read Short) {x : Subtree} {next : ℕ} → x ≡ short_read end m → x ≡ subtree.Next next → Got m
+pub short_got : (end : ℕ) (m : Read Short) {x : Result ℕ Refusal} {next : ℕ} → x ≡ short_read end m → x ≡ Ok next → Got m
 unfolding short_read
 short_got end (got t rest) e₁ e₂ = record { tree = t; rest = rest; is = refl }
 short_got end (refused k) e₁ e₂ = let z : ◌≡◌ {A = ℕ} 0 1 = cc in absurd (omega arith)
 
-pub short_refused : (end : ℕ) (m : Read Short) {x : Subtree} {why : Refusal} → x ≡ short_read end m → x ≡ subtree.Refused why → RefusedBy m why
+pub short_refused : (end : ℕ) (m : Read Short) {x : Result ℕ Refusal} {why : Refusal} → x ≡ short_read end m → x ≡ Err why → RefusedBy m why
 unfolding short_read
 short_refused end (got t rest) e₁ e₂ = let z : ◌≡◌ {A = ℕ} 0 1 = cc in absurd (omega arith)
 short_refused end (refused k) e₁ e₂ = record { kind = k; is = refl; code = cc }
