@@ -1,4 +1,5 @@
 -- The first decomposable formula of a sequent spelled out, where it is an implication. Assumes nothing.
+use Rattle.std.specs.Prelude.{None, Some}
 use mathlib.Core.Path.{◌≡◌, refl, sym, ap, ◌∙◌}
 use mathlib.Core.Bool.{true, false}
 use mathlib.Core.List.{List, [], ◌∷◌, ◌++◌}
@@ -129,15 +130,15 @@ module _ {m : List ℕ} {z : Zones} {i : ℕ} (s : Sound m z) (first : FirstAt m
       ap decomposable (get_or-take i (sequent m z).linear k One b ∙ linear_told s k (omega (arith, first.low))) ∙ first.passed k b)
 
   -- nothing is made
-  spelt_plain : made_of (sequent m z).linear ≡ none → concluded (sequent m z) ≡ sequent m z → SpeltTo m z record { full = false; zones = z } m
+  spelt_plain : made_of (sequent m z).linear ≡ none → concluded (sequent m z) ≡ sequent m z → SpeltTo m z (Some z) m
   spelt_plain e c = record {
     wf = s.wf;
     grew = extends_refl m;
     made_is = entered_none (made_of (sequent m z).linear) (view m) e;
-    means = λ _. record { sound = s; means = sym c };
+    means = record { sound = s; means = sym c };
   }
 
-  pub spelt_none : i ≡ z.linear_len → SpeltTo m z record { full = false; zones = z } m
+  pub spelt_none : i ≡ z.linear_len → SpeltTo m z (Some z) m
   spelt_none e =
       let p : Passed (sequent m z).linear =
       passed_list (sequent m z).linear
@@ -162,7 +163,7 @@ module _ {m : List ℕ} {z : Zones} {i : ℕ} (s : Sound m z) (first : FirstAt m
     tag_here = told_tag m _ s.wf (linear_low s i h)
 
     module _ {t : ℕ} (f : Field m (get_or z.linear i 0) 0 t) where
-      pub spelt_other : (t ≡ 10 → ⊥) → SpeltTo m z record { full = false; zones = z } m
+      pub spelt_other : (t ≡ 10 → ⊥) → SpeltTo m z (Some z) m
       spelt_other n =
           let o : tag_of (told m (get_or z.linear i 0)) ≡ 10 → ⊥ = λ e. n (f.value ∙ sym tag_here ∙ e) in
           spelt_plain
@@ -183,18 +184,18 @@ module _ {m : List ℕ} {z : Zones} {i : ℕ} (s : Sound m z) (first : FirstAt m
         made_some : made_of (sequent m z).linear ≡ some (spell (told m (get_or z.linear i 0)))
         made_some = made_here ∙ lolli_some _ (tag_here ∙ sym f.value ∙ e)
 
-        pub spelt_full : {m' : List ℕ} → Refused m (spell (told m (get_or z.linear i 0))) m' → SpeltTo m z record { full = true; zones = z } m'
+        pub spelt_full : {m' : List ℕ} → Refused m (spell (told m (get_or z.linear i 0))) m' → SpeltTo m z None m'
         spelt_full {m'} r =
             rw r.same
             record {
               wf = s.wf;
               grew = extends_refl m;
               made_is = entered_full (made_of (sequent m z).linear) _ (view m) made_some r.over;
-              means = λ (n : true ≡ false). absurd (let o : ◌≡◌ {A = ℕ} 0 1 = cc in omega arith);
+              means = tt;
             }
 
         pub spelt_lolli : {m' : List ℕ} {p : ℕ} {r : Zones} → Entered m (spell (told m (get_or z.linear i 0))) p m' → Made z (replaced i p) r
-            → SpeltTo m z record { full = false; zones = r } m'
+            → SpeltTo m z (Some r) m'
         spelt_lolli {m'} {p} {r} n k =
             let g = spell (told m (get_or z.linear i 0)) in
             record {
@@ -208,7 +209,7 @@ module _ {m : List ℕ} {z : Zones} {i : ℕ} (s : Sound m z) (first : FirstAt m
                   made_some
                   (omega (arith, ap length n.all, held_length m' (words.count m'), n.wf.few))
                   ∙ ap with_held (sym n.all);
-              means = λ _. record {
+              means = record {
                 sound = record {
                   wf = n.wf;
                   fits = k.fits;

@@ -1,13 +1,14 @@
 -- Tests of a step over held formulas: tags and names read from the words, and what each function answers of them. Assumes nothing.
 use mathlib.Core.Path.{◌≡◌, refl, sym, ap, ◌∙◌}
-use mathlib.Core.Logic.{⊎_elim}
-use mathlib.Core.Bool.{Bool, true, false, ◌&&◌, false≢true}
+use mathlib.Core.Logic.{◌⊎◌, inl, inr, ⊎_elim}
+use mathlib.Core.Bool.{Bool, true, false, not, ◌&&◌, false≢true}
 use mathlib.Core.List.{List, [], ◌∷◌}
-use Prim.Native.Nat.{ℕ, zero, suc, ◌+◌, ◌/◌, ◌≤◌, ◌<◌, ◌^◌}
-use native.Mathlib.Nat.{add-zero, two-pow-succ}
+use Prim.Native.Nat.{ℕ, zero, suc, ◌+◌, ◌-◌, ◌*◌, ◌%◌, ◌≤◌, ◌<◌, ◌^◌}
+use native.Mathlib.Nat.{add-zero}
 use native.Mathlib.Omega.{arith}
-use borrow.Author.Tests.{eqb-true, eqb-false, ltb-true, lt-ltb, eq-eqb, ne_eqb}
-use lib.Dec.{eqb, ltb}
+use borrow.Author.Tests.{eqb-true, eqb-false, lt-leb, eq-eqb, ne_eqb}
+use lib.Dec.{eqb, leb, ltb}
+use Rattle.std.proofs.Math.Pow.{shl_exact}
 use lib.ListN.{get_or, length, take, drop, length-map, get_or-eq_default}
 use lib.Seq.{get_or-drop, get_or-take, length-take-le}
 use Rattle.logic.specs.Formula.{Formula, One, Bottom, Top, Zero, Atom, NegAtom, Tensor, Par, With, Plus, Lolli, OfCourse, WhyNot, same, negate}
@@ -116,17 +117,29 @@ module _ {m : List ℕ} {z : Zones} (s : Sound m z) where
     pub first_here : k < z.linear_len → decomposable (formula_at (sequent m z) k) ≡ true
     first_here h = ap decomposable (linear_told k h) ∙ f.here h
 
--- a table read with another default
-pub same_default : (xs : List ℕ) (k a b : ℕ) → k < length xs → get_or xs k a ≡ get_or xs k b
-same_default [] k a b h = absurd (omega arith)
-same_default (x ∷ xs) zero a b h = refl
-same_default (x ∷ xs) (suc k) a b h = same_default xs k a b (omega arith)
-
 pub decomposed_past : (rule : ℕ) → 17 < rule → 13 ≡ decomposed_tag rule
 decomposed_past rule h = sym (get_or-eq_default decomposed_tags 13 {n = rule} (omega arith))
 
-pub decomposed_listed : (rule : ℕ) → rule ≤ 17 → get_or decomposed_tags rule 0 ≡ decomposed_tag rule
-decomposed_listed rule h = same_default decomposed_tags rule 0 13 (omega arith)
+pub decomposed_none : (rule : ℕ) → (rule ≡ 3 → ⊥) → (rule ≡ 5 → ⊥) → (rule ≡ 6 → ⊥) → (rule ≡ 7 → ⊥) → (rule ≡ 11 → ⊥) → 13 ≡ decomposed_tag rule
+decomposed_none zero a b c d e = refl
+decomposed_none (suc zero) a b c d e = refl
+decomposed_none (suc (suc zero)) a b c d e = refl
+decomposed_none (suc (suc (suc zero))) a b c d e = absurd (a refl)
+decomposed_none (suc (suc (suc (suc zero)))) a b c d e = refl
+decomposed_none (suc (suc (suc (suc (suc zero))))) a b c d e = absurd (b refl)
+decomposed_none (suc (suc (suc (suc (suc (suc zero)))))) a b c d e = absurd (c refl)
+decomposed_none (suc (suc (suc (suc (suc (suc (suc zero))))))) a b c d e = absurd (d refl)
+decomposed_none (suc (suc (suc (suc (suc (suc (suc (suc zero)))))))) a b c d e = refl
+decomposed_none (suc (suc (suc (suc (suc (suc (suc (suc (suc zero))))))))) a b c d e = refl
+decomposed_none (suc (suc (suc (suc (suc (suc (suc (suc (suc (suc zero)))))))))) a b c d e = refl
+decomposed_none (suc (suc (suc (suc (suc (suc (suc (suc (suc (suc (suc zero))))))))))) a b c d e = absurd (e refl)
+decomposed_none (suc (suc (suc (suc (suc (suc (suc (suc (suc (suc (suc (suc zero)))))))))))) a b c d e = refl
+decomposed_none (suc (suc (suc (suc (suc (suc (suc (suc (suc (suc (suc (suc (suc zero))))))))))))) a b c d e = refl
+decomposed_none (suc (suc (suc (suc (suc (suc (suc (suc (suc (suc (suc (suc (suc (suc zero)))))))))))))) a b c d e = refl
+decomposed_none (suc (suc (suc (suc (suc (suc (suc (suc (suc (suc (suc (suc (suc (suc (suc zero))))))))))))))) a b c d e = refl
+decomposed_none (suc (suc (suc (suc (suc (suc (suc (suc (suc (suc (suc (suc (suc (suc (suc (suc zero)))))))))))))))) a b c d e = refl
+decomposed_none (suc (suc (suc (suc (suc (suc (suc (suc (suc (suc (suc (suc (suc (suc (suc (suc (suc zero))))))))))))))))) a b c d e = refl
+decomposed_none (suc (suc (suc (suc (suc (suc (suc (suc (suc (suc (suc (suc (suc (suc (suc (suc (suc (suc n)))))))))))))))))) a b c d e = refl
 
 -- ---- `is_pair`
 
@@ -310,26 +323,6 @@ module _ {m : List ℕ} {z : Zones} (s : Sound m z) {place tag : ℕ} where
         ∙ sym (last_true (tagged (sequent m z) place tag) _ (rw (eq-eqb place 0 p) (eq-eqb (length (sequent m z).linear) 1 (linear_length s ∙ e))));
   }
 
--- the mask without its lowest k - 1 bits: it is below a power just where the mask is below one with k - 1 more
-pub record Spare (mask k spare : ℕ) : Type 0 where
-  pub some : 1 ≤ k
-  pub fits : (j n : ℕ) → j + k ≡ n + 1 → spare < 2 ^ j → mask < 2 ^ n
-  pub fitted : (j n : ℕ) → j + k ≡ n + 1 → mask < 2 ^ n → spare < 2 ^ j
-
-pub spare_start : (mask : ℕ) → Spare mask 1 mask
-spare_start mask = record {
-  some = omega arith;
-  fits = λ j n e l. let k : j ≡ n = omega arith in rw k at l;
-  fitted = λ j n e l. let k : n ≡ j = omega arith in rw k at l;
-}
-
-pub spare_next : {mask k spare : ℕ} → Spare mask k spare → Spare mask (k + 1) (spare / 2)
-spare_next {mask} {k} {spare} p = record {
-  some = omega arith;
-  fits = λ j n e l. p.fits (suc j) n (omega arith) (omega (arith, two-pow-succ j));
-  fitted = λ j n e l. let u = p.fitted (suc j) n (omega arith) l in omega (arith, two-pow-succ j);
-}
-
 module _ {m : List ℕ} {z : Zones} (s : Sound m z) {place t : ℕ} (k : TagAt m z place t) where
   pub split_other : {mask : ℕ} → (t ≡ 6 → ⊥) → Split m z place mask false
   split_other n = record { is = rw (ne_eqb (tag_of (formula_at (sequent m z) place)) 6 (λ e. n (k.is ∙ e))) }
@@ -338,19 +331,17 @@ module _ {m : List ℕ} {z : Zones} (s : Sound m z) {place t : ℕ} (k : TagAt m
   split_some e =
       omega (arith, linear_length s, tag_in (sequent m z).linear place 6 (omega arith) (eq-eqb (tag_of (formula_at (sequent m z) place)) 6 (sym k.is ∙ e)))
 
-  pub split_spare : t ≡ 6 → {mask i spare : ℕ} → Spare mask i spare → i ≤ z.linear_len → z.linear_len ≤ i → Split m z place mask (eqb spare 0)
-  split_spare e {mask} {i} {spare} p l h =
+  -- a bit of the mask for each other formula
+  pub split_below : t ≡ 6 → (mask : ℕ) → Split m z place mask (ltb mask ((1 * 2 ^ (z.linear_len - 1)) % 18446744073709551616))
+  split_below e mask =
       let tag = eq-eqb (tag_of (formula_at (sequent m z) place)) 6 (sym k.is ∙ e) in
-      let others = length (remove place (sequent m z).linear) in
       let low = tag_in (sequent m z).linear place 6 (omega arith) tag in
-      let n : 0 + i ≡ others + 1 = omega (arith, remove_length (sequent m z).linear place low, linear_length s) in
-      record {
-        is =
-            rw tag
-            (same_test (eqb spare 0) (ltb mask (2 ^ others))
-            (λ u. lt-ltb mask (2 ^ others) (p.fits 0 others n (omega (arith, eqb-true spare 0 u))))
-            (λ u. eq-eqb spare 0 (omega (arith, p.fitted 0 others n (ltb-true mask (2 ^ others) u)))));
-      }
+      let others = length (remove place (sequent m z).linear) in
+      let n : z.linear_len - 1 ≡ others = omega (arith, remove_length (sequent m z).linear place low, linear_length s) in
+      let few : 1 + (z.linear_len - 1) ≤ 64 = omega (arith, s.fits.few) in
+      let one : (1 * 2 ^ (z.linear_len - 1)) % 18446744073709551616 ≡ 2 ^ (z.linear_len - 1) =
+      omega (arith, shl_exact {a = 1} 1 (z.linear_len - 1) 64 (omega arith) few) in
+      record { is = rw (tag, ← n) (ap (ltb mask) one) }
 
 -- ---- `takes_focused`
 
@@ -387,9 +378,9 @@ unrestricted_tested : {m : List ℕ} {z : Zones} → Sound m z → (place : ℕ)
 unrestricted_tested s place = ap (ltb place) (sym (unrestricted_length s))
 
 module _ {m : List ℕ} {z : Zones} {rule place mask : ℕ} (p : Focused m z) where
-  pub focused_axiom_place : rule ≡ 0 → (place ≡ 0 → ⊥) → Asked m z rule place mask false
+  pub focused_axiom_place : rule ≡ 0 → (place ≡ 0 → ⊥) → Asked m z rule place mask (eqb place 0)
   unfolding may_take
-  focused_axiom_place n o = asked_of 0 n (omega arith) (λ e. omega arith) (rw (p.sync, ne_eqb place 0 o))
+  focused_axiom_place n o = rw (ne_eqb place 0 o) (asked_of 0 n (omega arith) (λ e. omega arith) (rw (p.sync, ne_eqb place 0 o)))
 
   pub focused_axiom : {b : Bool} → rule ≡ 0 → place ≡ 0 → Pair m z b → Asked m z rule place mask b
   unfolding may_take
@@ -405,29 +396,38 @@ module _ {m : List ℕ} {z : Zones} {rule place mask : ℕ} (p : Focused m z) wh
   unfolding may_take is_focus
   focused_tensor n k = asked_of 4 n (omega arith) (λ e. omega arith) (rw p.sync k.is)
 
-  pub focused_plus_left : {t : ℕ} → rule ≡ 8 → TagAt m z place t → Asked m z rule place mask (eqb t 9)
+  focused_plus_left : {t : ℕ} → rule ≡ 8 → TagAt m z place t → Asked m z rule place mask (eqb t 9)
   unfolding may_take is_focus
   focused_plus_left n k = asked_of 8 n (omega arith) (λ e. omega arith) (rw p.sync (ap (λ (x : ℕ). eqb x 9) k.is))
 
-  pub focused_plus_right : {t : ℕ} → rule ≡ 9 → TagAt m z place t → Asked m z rule place mask (eqb t 9)
+  focused_plus_right : {t : ℕ} → rule ≡ 9 → TagAt m z place t → Asked m z rule place mask (eqb t 9)
   unfolding may_take is_focus
   focused_plus_right n k = asked_of 9 n (omega arith) (λ e. omega arith) (rw p.sync (ap (λ (x : ℕ). eqb x 9) k.is))
+
+  pub focused_plus : {t : ℕ} → 8 ≤ rule → rule ≤ 9 → TagAt m z place t → Asked m z rule place mask (eqb t 9)
+  focused_plus low high k = ⊎_elim (λ h. focused_plus_left (omega arith) k) (λ h. focused_plus_right (omega arith) k) (le_or_lt rule 8)
 
   pub focused_of_course : {b : Bool} → rule ≡ 10 → Alone m z place 11 b → Asked m z rule place mask b
   unfolding may_take is_focus
   focused_of_course n k = asked_of 10 n (omega arith) (λ e. omega arith) (rw p.sync (k.is ∙ alone_first (sequent m z) place))
 
-  pub focused_weakening : rule ≡ 12 → Asked m z rule place mask (ltb place z.unrestricted_len)
+  focused_weakening : rule ≡ 12 → Asked m z rule place mask (ltb place z.unrestricted_len)
   unfolding may_take
   focused_weakening n = asked_of 12 n (omega arith) (λ e. omega arith) (rw p.sync (unrestricted_tested p.sound place))
 
-  pub focused_contraction : rule ≡ 13 → Asked m z rule place mask (ltb place z.unrestricted_len)
+  focused_contraction : rule ≡ 13 → Asked m z rule place mask (ltb place z.unrestricted_len)
   unfolding may_take
   focused_contraction n = asked_of 13 n (omega arith) (λ e. omega arith) (rw p.sync (unrestricted_tested p.sound place))
 
-  pub focused_dereliction : rule ≡ 14 → Asked m z rule place mask (ltb place z.unrestricted_len)
+  focused_dereliction : rule ≡ 14 → Asked m z rule place mask (ltb place z.unrestricted_len)
   unfolding may_take
   focused_dereliction n = asked_of 14 n (omega arith) (λ e. omega arith) (rw p.sync (unrestricted_tested p.sound place))
+
+  pub focused_kept : 12 ≤ rule → rule ≤ 14 → Asked m z rule place mask (ltb place z.unrestricted_len)
+  focused_kept low high =
+      ⊎_elim (λ h. focused_weakening (omega arith))
+      (λ h. ⊎_elim (λ k. focused_contraction (omega arith)) (λ k. focused_dereliction (omega arith)) (le_or_lt rule 13))
+      (le_or_lt rule 12)
 
   pub focused_other : Others rule → Asked m z rule place mask false
   focused_other o = asked_none (λ r n. untaken_sync (sequent m z) place mask r (sync_passed (sequent m z) p.sync) (rw n at o))
@@ -439,9 +439,9 @@ module _ {m : List ℕ} {z : Zones} {k : ℕ} (s : Sound m z) (f : FirstAt m z k
     async : is_sync (sequent m z) ≡ false
     async = not_sync (sequent m z) k k (first_passed s f) (first_here s f h)
 
-    pub take_elsewhere : {rule place mask : ℕ} → (place ≡ k → ⊥) → Asked m z rule place mask false
+    pub take_elsewhere : {rule place mask : ℕ} → (place ≡ k → ⊥) → Asked m z rule place mask (eqb place k)
     take_elsewhere {rule} {place} {mask} o =
-        asked_none (λ r n. untaken (sequent m z) place mask r async (first_other (sequent m z) place k (first_passed s f) (first_here s f h) o))
+        rw (ne_eqb place k o) (asked_none (λ r n. untaken (sequent m z) place mask r async (first_other (sequent m z) place k (first_passed s f) (first_here s f h) o)))
 
     pub take_first : {rule place mask t d : ℕ} → place ≡ k → TagAt m z place t → d ≡ decomposed_tag rule → Asked m z rule place mask (eqb t d)
     take_first {rule} {place} {mask} {t} {d} o g e = record {
@@ -467,9 +467,9 @@ module _ {m : List ℕ} {z : Zones} {k : ℕ} (s : Sound m z) (f : FirstAt m z k
         let b : j < z.linear_len = omega (arith, linear_length s) in
         ap decomposable (linear_told s j b) ∙ f.passed j (omega arith))
 
-    pub take_nothing : {rule place mask : ℕ} → z.linear_len ≡ 0 → Asked m z rule place mask false
+    pub take_nothing : {rule place mask : ℕ} → z.linear_len ≡ 0 → Asked m z rule place mask (not (eqb z.linear_len 0))
     take_nothing {rule} {place} {mask} e =
-        asked_none (λ r n. untaken (sequent m z) place mask r (empty_sync (sequent m z) place (linear_length s ∙ e)) (first_none (sequent m z) place all_taken))
+        rw (eq-eqb z.linear_len 0 e) (asked_none (λ r n. untaken (sequent m z) place mask r (empty_sync (sequent m z) place (linear_length s ∙ e)) (first_none (sequent m z) place all_taken)))
 
     pub focused : (z.linear_len ≡ 0 → ⊥) → Focused m z
     unfolding is_sync
@@ -484,17 +484,14 @@ module _ {z : Zones} {n : ℕ} (f : Fits z) (counted : n ≡ length (linears z) 
   meant_few : (to : ℕ → Formula) → count (meant to z) ≤ 31
   meant_few to = omega (arith, meant_count to, counted, linears_length f, unrestricteds_length f, f.few)
 
-  pub crowded_room : {rule : ℕ} → n < 31 → Crowded z rule false
-  crowded_room h = record { is = λ to r i mask fs k e. few_room i mask (meant to z) r fs e (omega (arith, meant_count to)) }
+  pub crowded_room : {rule : ℕ} → n < 31 → Crowded z rule (leb 31 n)
+  crowded_room h = rw (lt-leb 31 n h) record { is = λ to r i mask fs k e. few_room i mask (meant to z) r fs e (omega (arith, meant_count to)) }
 
-  pub crowded_par : {rule : ℕ} → 31 ≤ n → rule ≡ 5 → Crowded z rule true
-  crowded_par h p = record { is = λ to r i mask fs k e. many_par i mask (meant to z) r fs e (omega (arith, meant_count to)) (sym k ∙ p) }
+  pub crowded_many : {rule : ℕ} → 31 ≤ n → (rule ≡ 5) ⊎ (rule ≡ 13) → Crowded z rule true
+  crowded_many h (inl p) = record { is = λ to r i mask fs k e. many_par i mask (meant to z) r fs e (omega (arith, meant_count to)) (sym k ∙ p) }
+  crowded_many h (inr p) = record { is = λ to r i mask fs k e. many_contraction i mask (meant to z) r fs e (omega (arith, meant_count to)) (sym k ∙ p) }
 
-  pub crowded_contraction : {rule : ℕ} → 31 ≤ n → (rule ≡ 5 → ⊥) → Crowded z rule (eqb rule 13)
-  crowded_contraction {rule} h p = go (eqb rule 13) refl
-    where
-      go : (b : Bool) → eqb rule 13 ≡ b → Crowded z rule b
-      go true t = record { is = λ to r i mask fs k e. many_contraction i mask (meant to z) r fs e (omega (arith, meant_count to)) (sym k ∙ eqb-true rule 13 t) }
-      go false t = record {
-        is = λ to r i mask fs k e. few_taken i mask (meant to z) r fs e (meant_few to) (λ o. p (k ∙ o)) (λ o. eqb-false rule 13 t (k ∙ o));
-      }
+  pub crowded_other : {rule : ℕ} → ((rule ≡ 5) ⊎ (rule ≡ 13) → ⊥) → Crowded z rule false
+  crowded_other n = record {
+    is = λ to r i mask fs k e. few_taken i mask (meant to z) r fs e (meant_few to) (λ o. n (inl (k ∙ o))) (λ o. n (inr (k ∙ o)));
+  }

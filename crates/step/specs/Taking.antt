@@ -1,5 +1,6 @@
 -- What the functions on steps ask and answer. A contract speaks of the rule that has the number asked for. Assumes nothing: these are definitions.
-use Rattle.std.specs.Prelude.{◌≡◌, Bool, true, false, ◌&&◌, List, [], ◌∷◌, ℕ, ◌^◌, eqb, ltb, get_or, length}
+use Rattle.std.specs.Prelude.{◌≡◌, Bool, true, false, ◌&&◌, List, [], ◌∷◌, ℕ, ◌^◌, eqb, ltb, get_or, length, Option, None, Some}
+use Rattle.std.specs.Option.{IfSome}
 use Rattle.logic.specs.Formula.{Formula}
 use Rattle.logic.specs.Parts.{tag_of}
 use Rattle.logic.specs.Sequent.{Sequent}
@@ -14,23 +15,22 @@ use Rattle.zones.specs.Zones.{meant, remove}
 use Rattle.expand.specs.Writing.{Sound, Means}
 use Rattle.short.specs.Steps.{formula_at, is_pair, is_sync, may_take, premises_of}
 use Rattle.short.specs.Making.{Result, made, refused, spelt, few_each}
-use Rattle.step.specs.declared.Spelt.{Spelt}
 
 -- the sequent that the zones mean
 abbrev pub sequent : List ℕ → Zones → Sequent
 sequent m z = meant (told m) z
 
 -- no room for what is spelled out (7), or it is held
-abbrev pub if_full : Bool → Result (Unit {0})
-if_full true = refused held_full
-if_full false = made tt
+abbrev pub if_full : Option Zones → Result (Unit {0})
+if_full None = refused held_full
+if_full (Some y) = made tt
 
 -- the sequent z over the memory m, spelled out: the memory is m' then, and the zones mean what the node concludes
-pub record SpeltTo (m : List ℕ) (z : Zones) (r : Spelt) (m' : List ℕ) : Type 0 where
+pub record SpeltTo (m : List ℕ) (z : Zones) (r : Option Zones) (m' : List ℕ) : Type 0 where
   pub wf : Wf m'
   pub grew : Extends m m'
-  pub made_is : spelt (at_most 2048) (sequent m z) (view m) ≡ (if_full r.full, view m')
-  pub means : r.full ≡ false → Means m' (concluded (sequent m z)) r.zones
+  pub made_is : spelt (at_most 2048) (sequent m z) (view m) ≡ (if_full r, view m')
+  pub means : IfSome r (λ y. Means m' (concluded (sequent m z)) y)
 
 pub record TagAt (m : List ℕ) (z : Zones) (i r : ℕ) : Type 0 where
   pub is : r ≡ tag_of (formula_at (sequent m z) i)

@@ -9,7 +9,6 @@ ghost use Rattle.expand.specs.Writing.{Sound};
 ghost use Rattle.step.specs.Taking.{decomposed_tag, SpeltTo, TagAt, Pair, Alone, Split, Focused, Asked, Crowded};
 
 use expand::steps::first_decomposable;
-use held::Added;
 use held::turn::spell_held;
 use held::words::field;
 use zones::Zones;
@@ -19,15 +18,23 @@ pub const AXIOM: usize = 0;
 
 pub const ONE_INTRO: usize = 2;
 
+const BOTTOM_INTRO: usize = 3;
+
 pub const TENSOR_INTRO: usize = 4;
 
 pub const PAR_INTRO: usize = 5;
+
+const TOP_INTRO: usize = 6;
+
+const WITH_INTRO: usize = 7;
 
 pub const PLUS_INTRO_LEFT: usize = 8;
 
 pub const PLUS_INTRO_RIGHT: usize = 9;
 
 pub const OF_COURSE_INTRO: usize = 10;
+
+const WHY_NOT_INTRO: usize = 11;
 
 pub const WEAKENING: usize = 12;
 
@@ -38,11 +45,19 @@ pub const DERELICTION: usize = 14;
 // Tags by document 01's number.
 pub const ONE: usize = 0;
 
+const BOTTOM: usize = 1;
+
+const TOP: usize = 2;
+
 pub const ATOM: usize = 4;
 
 pub const NEG_ATOM: usize = 5;
 
 pub const TENSOR: usize = 6;
+
+const PAR: usize = 7;
+
+const WITH: usize = 8;
 
 pub const PLUS: usize = 9;
 
@@ -50,44 +65,29 @@ pub const LOLLI: usize = 10;
 
 pub const OF_COURSE: usize = 11;
 
+const WHY_NOT: usize = 12;
+
+// One past the tags.
+const NO_TAG: usize = 13;
+
 // The most formulas of a sequent.
 pub const MOST: usize = 31;
 
-// A sequent whose first decomposable formula is no implication; or no room for the implication spelled out, and the sequent as it was.
-#[derive(Clone, Copy)]
-pub struct Spelt {
-    pub full: bool,
-    pub zones: Zones,
-}
-
-// Spells the first decomposable formula out, where that is an implication: `Par(left negated, right)` is entered with its parts, or every word stays as it is.
-pub fn spell_first(mem: &mut [u16], z: Zones) -> Spelt
+// Spells the first decomposable formula out, where that is an implication: `Par(left negated, right)` is entered with its parts. No room for it: none, and every word stays as it is.
+pub fn spell_first(mem: &mut [u16], z: Zones) -> Option<Zones>
     requires { Sound mem.old z }
     ensures { SpeltTo mem.old z result mem.new }
 {
     let i = first_decomposable(mem, z);
-    let n = z.linear_len;
-    if i == n {
-        return Spelt {
-            full: false,
-            zones: z,
-        };
+    if i == z.linear_len {
+        return Some(z);
     }
     let x = z.linear[i] as usize;
     if field(mem, x, 0) != LOLLI {
-        return Spelt {
-            full: false,
-            zones: z,
-        };
+        return Some(z);
     }
-    let Added::At(p) = spell_held(mem, x) else {
-        return Spelt {
-            full: true,
-            zones: z,
-        };
-    };
-    let zones = z.replaced(i, p as u16);
-    Spelt { full: false, zones }
+    let p = spell_held(mem, x)?;
+    Some(z.replaced(i, p as u16))
 }
 
 // The tag of the linear formula at a place; past the end it is that of One, which no rule but OneIntro wants.
@@ -103,17 +103,18 @@ fn tag_at(mem: &[u16], z: Zones, i: usize) -> usize
     field(mem, x, 0)
 }
 
-// The tag of the formula that a rule of `prove_async` decomposes, and 13 for any other rule.
+// The tag of the formula that a rule of `prove_async` decomposes, and no tag for any other rule.
 fn decomposed(rule: usize) -> usize
     ensures { result ≡ decomposed_tag rule }
 {
-    let tags: [usize; 18] = [
-        13, 13, 13, 1, 13, 7, 2, 8, 13, 13, 13, 12, 13, 13, 13, 13, 13, 13,
-    ];
-    if 17 < rule {
-        return 13;
+    match rule {
+        BOTTOM_INTRO => BOTTOM,
+        PAR_INTRO => PAR,
+        TOP_INTRO => TOP,
+        WITH_INTRO => WITH,
+        WHY_NOT_INTRO => WHY_NOT,
+        _ => NO_TAG,
     }
-    tags[rule]
 }
 
 // The linear zone is a name and its negation, in either order.
@@ -129,15 +130,12 @@ fn is_pair(mem: &[u16], z: Zones) -> bool
     if field(mem, x, 1) != field(mem, y, 1) {
         return false;
     }
-    let tag = field(mem, x, 0);
     let other = field(mem, y, 0);
-    if tag == ATOM {
-        return other == NEG_ATOM;
+    match field(mem, x, 0) {
+        ATOM => other == NEG_ATOM,
+        NEG_ATOM => other == ATOM,
+        _ => false,
     }
-    if tag == NEG_ATOM {
-        return other == ATOM;
-    }
-    false
 }
 
 // The formula at the place has this tag, and stands alone.
@@ -145,13 +143,7 @@ fn is_alone(mem: &[u16], z: Zones, place: usize, tag: usize) -> bool
     requires { Sound mem.now z }
     ensures { Alone mem.now z place tag result }
 {
-    if z.linear_len != 1 {
-        return false;
-    }
-    if place != 0 {
-        return false;
-    }
-    tag_at(mem, z, place) == tag
+    z.linear_len == 1 && place == 0 && tag_at(mem, z, place) == tag
 }
 
 // A tensor stands at the place, and the mask has a bit for each other formula and no spare one set.
@@ -162,13 +154,7 @@ fn is_split(mem: &[u16], z: Zones, place: usize, mask: usize) -> bool
     if tag_at(mem, z, place) != TENSOR {
         return false;
     }
-    let mut spare = mask;
-    let mut k = 1;
-    while k < z.linear_len {
-        spare = spare / 2;
-        k += 1;
-    }
-    spare == 0
+    mask < 1 << (z.linear_len - 1)
 }
 
 // A step of `prove_sync`, where no formula is decomposable and the linear zone is not empty.
@@ -177,20 +163,12 @@ fn takes_focused(mem: &[u16], z: Zones, rule: usize, place: usize, mask: usize) 
     ensures { Asked mem.now z rule place mask result }
 {
     match rule {
-        0 => {
-            if place != 0 {
-                return false;
-            }
-            is_pair(mem, z)
-        }
-        2 => is_alone(mem, z, place, ONE),
-        4 => is_split(mem, z, place, mask),
-        8 => tag_at(mem, z, place) == PLUS,
-        9 => tag_at(mem, z, place) == PLUS,
-        10 => is_alone(mem, z, place, OF_COURSE),
-        12 => place < z.unrestricted_len,
-        13 => place < z.unrestricted_len,
-        14 => place < z.unrestricted_len,
+        AXIOM => place == 0 && is_pair(mem, z),
+        ONE_INTRO => is_alone(mem, z, place, ONE),
+        TENSOR_INTRO => is_split(mem, z, place, mask),
+        PLUS_INTRO_LEFT | PLUS_INTRO_RIGHT => tag_at(mem, z, place) == PLUS,
+        OF_COURSE_INTRO => is_alone(mem, z, place, OF_COURSE),
+        WEAKENING | CONTRACTION | DERELICTION => place < z.unrestricted_len,
         _ => false,
     }
 }
@@ -201,17 +179,10 @@ pub fn may_take(mem: &[u16], z: Zones, rule: usize, place: usize, mask: usize) -
     ensures { Asked mem.now z rule place mask result }
 {
     let first = first_decomposable(mem, z);
-    let n = z.linear_len;
-    if first < n {
-        if place != first {
-            return false;
-        }
-        return tag_at(mem, z, place) == decomposed(rule);
+    if first < z.linear_len {
+        return place == first && tag_at(mem, z, place) == decomposed(rule);
     }
-    if n == 0 {
-        return false;
-    }
-    takes_focused(mem, z, rule, place, mask)
+    z.linear_len != 0 && takes_focused(mem, z, rule, place, mask)
 }
 
 // Whether a premise has more formulas than a sequent may: at ParIntro and Contraction alone it has one more than the conclusion.
@@ -219,13 +190,7 @@ pub fn is_crowded(z: Zones, rule: usize) -> bool
     requires { Fits z }
     ensures { Crowded z rule result }
 {
-    if z.count() < MOST {
-        return false;
-    }
-    if rule == PAR_INTRO {
-        return true;
-    }
-    rule == CONTRACTION
+    z.count() >= MOST && matches!(rule, PAR_INTRO | CONTRACTION)
 }
 
 // The word of a node (crates/expand/specs/Short.antt).

@@ -1,8 +1,6 @@
-use Rattle.step.proofs.TakingSteps.{decomposed_past, decomposed_listed}
+use native.Mathlib.Omega.{arith}
+use Rattle.step.proofs.TakingSteps.{decomposed_none}
 use Rattle.step.proofs.decomposed.Goals as goal
 
-pub returns-then-rule-gt17 : goal.returns-then-rule-gt17
-returns-then-rule-gt17 c = decomposed_past c.args.rule c.if-rule-gt17.true
-
-pub returns : goal.returns
-returns c = decomposed_listed c.args.rule c.if-rule-gt17.false
+pub returns-in_default : goal.returns-in_default
+returns-in_default c = decomposed_none c.args.rule (λ e. omega arith) (λ e. omega arith) (λ e. omega arith) (λ e. omega arith) (λ e. omega arith)

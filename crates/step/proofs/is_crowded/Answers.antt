@@ -1,11 +1,12 @@
-use Rattle.step.proofs.TakingSteps.{crowded_room, crowded_par, crowded_contraction}
+use Rattle.std.proofs.Common.{rules}
+use Rattle.step.proofs.TakingSteps.{crowded_room, crowded_many, crowded_other}
 use Rattle.step.proofs.is_crowded.Goals as goal
 
-pub returns-then-count-lt-MOST : goal.returns-then-count-lt-MOST
-returns-then-count-lt-MOST c = crowded_room c.requires c.count.ensures c.if-count-lt-MOST.true
+pub returns-else-count-ge-MOST : goal.returns-else-count-ge-MOST
+returns-else-count-ge-MOST c = crowded_room c.requires c.count.ensures c.if-count-ge-MOST.false
 
-pub returns-then-rule-eq-PAR_INTRO : goal.returns-then-rule-eq-PAR_INTRO
-returns-then-rule-eq-PAR_INTRO c = crowded_par c.requires c.count.ensures c.if-count-lt-MOST.false c.if-rule-eq-PAR_INTRO.true
+pub returns-in-5 : goal.returns-in-5
+returns-in-5 c = crowded_many c.requires c.count.ensures c.if-count-ge-MOST.true c.in-5.is
 
-pub returns : goal.returns
-returns c = crowded_contraction c.requires c.count.ensures c.if-count-lt-MOST.false c.if-rule-eq-PAR_INTRO.false
+pub returns-in_default : goal.returns-in_default
+returns-in_default c = crowded_other c.requires c.count.ensures (search rules)

@@ -20,17 +20,17 @@ field-requires-2 c = ((linear_fits c.requires 1 (omega (arith, c.if-z-ne2.false)
 pub returns-then-field : goal.returns-then-field
 returns-then-field c = pair_apart c.requires c.if-z-ne2.false c.field.ensures c.field-2.ensures c.if-field.true
 
-pub field-tag-requires : goal.field-tag-requires
-field-tag-requires c = ((linear_fits c.requires 0 (omega (arith, c.if-z-ne2.false)), omega arith), c.requires.wf.sized)
-
 pub field-other-requires : goal.field-other-requires
 field-other-requires c = ((linear_fits c.requires 1 (omega (arith, c.if-z-ne2.false)), omega arith), c.requires.wf.sized)
 
-pub returns-then-tag-eq-ATOM : goal.returns-then-tag-eq-ATOM
-returns-then-tag-eq-ATOM c = pair_atom c.requires c.if-z-ne2.false c.field.ensures c.field-2.ensures c.if-field.false c.field-tag.ensures c.field-other.ensures c.if-tag-eq-ATOM.true
+pub field-requires-3 : goal.field-requires-3
+field-requires-3 c = ((linear_fits c.requires 0 (omega (arith, c.if-z-ne2.false)), omega arith), c.requires.wf.sized)
 
-pub returns-then-tag-eq-NEG_ATOM : goal.returns-then-tag-eq-NEG_ATOM
-returns-then-tag-eq-NEG_ATOM c = pair_negation c.requires c.if-z-ne2.false c.field.ensures c.field-2.ensures c.if-field.false c.field-tag.ensures c.field-other.ensures c.if-tag-eq-NEG_ATOM.true
+pub returns-in-4 : goal.returns-in-4
+returns-in-4 c = pair_atom c.requires c.if-z-ne2.false c.field.ensures c.field-2.ensures c.if-field.false c.field-3.ensures c.field-other.ensures c.in-4.is
 
-pub returns : goal.returns
-returns c = pair_unlike c.requires c.if-z-ne2.false c.field.ensures c.field-2.ensures c.if-field.false c.field-tag.ensures c.field-other.ensures c.if-tag-eq-ATOM.false c.if-tag-eq-NEG_ATOM.false
+pub returns-in-5 : goal.returns-in-5
+returns-in-5 c = pair_negation c.requires c.if-z-ne2.false c.field.ensures c.field-2.ensures c.if-field.false c.field-3.ensures c.field-other.ensures c.in-5.is
+
+pub returns-in_default : goal.returns-in_default
+returns-in_default c = pair_unlike c.requires c.if-z-ne2.false c.field.ensures c.field-2.ensures c.if-field.false c.field-3.ensures c.field-other.ensures (λ e. omega arith) (λ e. omega arith)

@@ -1,15 +1,14 @@
 use Rattle.step.proofs.TakingSteps.{take_elsewhere, take_first, take_nothing, focused}
-use native.Mathlib.Omega.{arith}
 use Rattle.step.proofs.may_take.Goals as goal
 
 pub returns-then-place-first : goal.returns-then-place-first
-returns-then-place-first c = take_elsewhere c.requires c.first_decomposable-first.ensures c.if-first-n.true (λ e. omega (arith, c.if-place-first.true))
+returns-then-place-first c = take_first c.requires c.first_decomposable-first.ensures c.if-first-z.true c.if-place-first.true c.tag_at.ensures c.decomposed.ensures
 
-pub returns-then-first-n : goal.returns-then-first-n
-returns-then-first-n c = take_first c.requires c.first_decomposable-first.ensures c.if-first-n.true (omega (arith, c.if-place-first.false)) c.tag_at.ensures c.decomposed.ensures
+pub returns-else-place-first : goal.returns-else-place-first
+returns-else-place-first c = take_elsewhere c.requires c.first_decomposable-first.ensures c.if-first-z.true c.if-place-first.false
 
-pub returns-then-n-eq0 : goal.returns-then-n-eq0
-returns-then-n-eq0 c = take_nothing c.requires c.first_decomposable-first.ensures c.if-first-n.false c.if-n-eq0.true
+pub returns-else-z-ne0 : goal.returns-else-z-ne0
+returns-else-z-ne0 c = take_nothing c.requires c.first_decomposable-first.ensures c.if-first-z.false c.if-z-ne0.false
 
 pub takes_focused-requires : goal.takes_focused-requires
-takes_focused-requires c = focused c.requires c.first_decomposable-first.ensures c.if-first-n.false c.if-n-eq0.false
+takes_focused-requires c = focused c.requires c.first_decomposable-first.ensures c.if-first-z.false c.if-z-ne0.true
