@@ -1,7 +1,7 @@
 // The well-formed test of the failures' words, over well-formed words of formulas; and reset.
 ghost use Rattle.std.specs.Prelude.{◌≡◌, ◌<◌, ◌≤◌, length};
 ghost use Rattle.held.specs.Answers.{Tells};
-ghost use Rattle.held.specs.Words.{Wf, Zeros};
+ghost use Rattle.held.specs.Words.{Wf};
 ghost use Rattle.failures.specs.Items.{Item, Listing};
 ghost use Rattle.failures.specs.Records.{most, words, items_at, Stands, Standing, WfFailures, ResetTo};
 
@@ -32,8 +32,7 @@ fn items_fit(held: &[u16], fail: &[u16], i: usize, n: usize) -> bool
     ensures { Tells result (Listing held.now (items_at fail.now i n)) }
 {
     let mut last: usize = 0;
-    let mut k = 0;
-    while k < n {
+    for k in 0..n {
         let x = fail[2 + 32 * i + k] as usize;
         if x < last {
             return false;
@@ -42,7 +41,6 @@ fn items_fit(held: &[u16], fail: &[u16], i: usize, n: usize) -> bool
             return false;
         }
         last = x;
-        k += 1;
     }
     true
 }
@@ -67,14 +65,7 @@ fn records_fit(held: &[u16], fail: &[u16], n: usize) -> bool
     requires { (Wf held.now × (length fail.now ≡ words)) × (n ≤ most) }
     ensures { Tells result (Standing held.now fail.now n) }
 {
-    let mut i = 0;
-    while i < n {
-        if !record_fits(held, fail, i) {
-            return false;
-        }
-        i += 1;
-    }
-    true
+    (0..n).all(|i| record_fits(held, fail, i))
 }
 
 // Whether the words are well-formed over well-formed words of formulas. Any words may be lent.
@@ -101,17 +92,6 @@ pub fn well_formed(held: &[u16], fail: &[u16]) -> bool
     zeros(fail, ORDER + n, WORDS)
 }
 
-// Makes every word zero.
-fn clear(fail: &mut [u16])
-    ensures { Zeros fail.new 0 (length fail.old) }
-{
-    let mut k = 0;
-    while k < fail.len() {
-        fail[k] = 0;
-        k += 1;
-    }
-}
-
 // No failure is recorded. Any words of the right length may be lent.
 pub fn reset(fail: &mut [u16]) -> bool
     ensures { ResetTo fail.old result fail.new }
@@ -119,6 +99,6 @@ pub fn reset(fail: &mut [u16]) -> bool
     if fail.len() != WORDS {
         return false;
     }
-    clear(fail);
+    fail.fill(0);
     true
 }

@@ -1,15 +1,8 @@
-use Prim.Native.Nat.{◌+◌, ◌*◌}
 use native.Mathlib.Omega.{arith}
 use Rattle.failures.specs.RecordsLaws.{listing_item}
 use Rattle.held.proofs.RowSteps.{told, untold}
-use Rattle.failures.proofs.Steps.{fitting_start, fitting_falls, fitting_step, fitting_end}
+use Rattle.failures.proofs.Steps.{fitting_falls, fitting_step}
 use Rattle.failures.proofs.form.items_fit.Goals as goal
-
-pub loop-k-init : goal.loop-k-init
-loop-k-init c = fitting_start _ _ _ _
-
-pub overflow_cast-x : goal.overflow_cast-x
-overflow_cast-x c = omega (arith, c.type_inv.fail (2 + 32 * c.args.i + c.loop-k.k))
 
 pub returns-then-x-last : goal.returns-then-x-last
 returns-then-x-last c = fitting_falls c.loop-k.invariant (omega arith) (omega arith) c.if-x-last.true
@@ -20,6 +13,3 @@ returns-then-not-item_fits c = λ z. untold c.item_fits.result _ c.item_fits.ens
 pub loop-k-preserved : goal.loop-k-preserved
 loop-k-preserved c = fitting_step c.loop-k.invariant (omega arith) c.if-x-last.false
     (told c.item_fits.result _ c.item_fits.ensures c.if-not-item_fits.false)
-
-pub returns : goal.returns
-returns c = fitting_end c.loop-k.invariant (omega arith) c.loop-k-test.false
