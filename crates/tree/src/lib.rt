@@ -12,7 +12,7 @@ ghost use Rattle.tree.specs.Places.{Passed, ZoneFound, ArgumentPassed, NodeFound
 use formula::Refusal;
 use rule::Rule;
 
-pub const HIGHEST_FORMULA: usize = 64;
+pub const HIGHEST_FORMULA: usize = formula::HIGHEST;
 
 pub const HIGHEST_TREE: usize = 65;
 
@@ -196,7 +196,7 @@ pub fn two_at(s: &[u8], at: usize) -> usize
     requires { at ≤ length s.now }
     ensures { result ≡ get_or s.now at 0 * 256 + get_or s.now (at + 1) 0 }
 {
-    usize::from(byte_at(s, at)) * 256 + usize::from(byte_at(s, at + 1))
+    usize::from(u16::from_be_bytes([byte_at(s, at), byte_at(s, at + 1)]))
 }
 
 // The place so many bytes on, and the end where there are fewer.
@@ -216,14 +216,14 @@ pub fn next_formula(s: &[u8], at: usize, end: usize) -> usize
 }
 
 // A part of the message, from one place up to another.
-#[derive(Clone, Copy)]
+#[derive(Clone, Copy, Debug, PartialEq, Eq)]
 pub struct Span {
     pub start: usize,
     pub end: usize,
 }
 
 // Where the parts of a node stand: its argument, the formulas of its zones, its first premise.
-#[derive(Clone, Copy)]
+#[derive(Clone, Copy, Debug, PartialEq, Eq)]
 pub struct Node {
     pub rule: u8,
     pub argument: usize,

@@ -10,12 +10,6 @@ read_node-returns-then-at-s t c = node_none c.args.s.now c.args.at c.args.levels
 pub read_node-returns-then-levels-eq0 : goal.read_node-returns-then-levels-eq0
 read_node-returns-then-levels-eq0 t c = node_too_high c.args.s.now c.args.at c.args.levels (omega (arith, c.if-at-s.false, c.requires.0)) c.if-levels-eq0.true
 
-pub read_node-read_head-requires : goal.read_node-read_head-requires
-read_node-read_head-requires t c = omega (arith, c.if-at-s.false, c.requires.0)
-
-pub read_node-overflow_sub-levels : goal.read_node-overflow_sub-levels
-read_node-overflow_sub-levels t c = omega (arith, c.if-levels-eq0.false)
-
 pub read_node-read_premises-requires : goal.read_node-read_premises-requires
 read_node-read_premises-requires t c = let there = head_landed c.args.s.now c.args.at c.args.levels (omega (arith, c.if-at-s.false, c.requires.0)) (omega (arith, c.if-levels-eq0.false)) c.read_head.ensures c.in_ok-own.was in (omega (arith, c.decreases, c.if-levels-eq0.false), (there.inside, omega (arith, c.requires.1)))
 
@@ -33,9 +27,6 @@ read_node-returns t c = node_read c.args.s.now c.args.at c.args.levels (omega (a
 
 pub read_premises-loop-init : goal.read_premises-loop-init
 read_premises-loop-init t c = simp unary_clauses (reading_start _ _ _ _ c.requires.0)
-
-pub read_premises-read_node-requires : goal.read_premises-read_node-requires
-read_premises-read_node-requires t c = (omega (arith, c.decreases), (c.loop.invariant.inside, c.requires.1))
 
 pub read_premises-returns-in_err-tree : goal.read_premises-returns-in_err-tree
 read_premises-returns-in_err-tree t c = let h = reading_refused _ _ _ _ c.loop.invariant (omega (arith, c.loop-test.true)) c.read_node.ensures c.in_err-tree.was in search rules
