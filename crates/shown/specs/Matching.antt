@@ -78,9 +78,10 @@ pub record MatchTells (m : List ℕ) (x : ℕ) (how : How) (place : ℕ) (f : Fo
   pub next_place : {next : ℕ} → r ≡ Some next → next ≡ place + size f
   pub other_formula : r ≡ None → f ≡ read_as how (told m x) → ⊥
 
--- how the item at place k is read, where the one at place `spelled` is spelled out
-abbrev pub how_of : (k spelled : ℕ) → How
-how_of k spelled = elim (eqb k spelled) [ true ↦ Spelled | false ↦ Plain ]
+-- how the item at place k is read, where the one at place `spelled`, if there is one, is spelled out
+abbrev pub how_of : ℕ → Option ℕ → How
+how_of k None = Plain
+how_of k (Some spelled) = elim (eqb k spelled) [ true ↦ Spelled | false ↦ Plain ]
 
 -- the formulas with the one at place k spelled out at its top
 unfoldable pub spell_nth : ℕ → List Formula → List Formula
@@ -88,13 +89,18 @@ spell_nth k [] = []
 spell_nth zero (f ∷ fs) = spell f ∷ fs
 spell_nth (suc k) (f ∷ fs) = f ∷ spell_nth k fs
 
+-- the formulas with the one at that place, if there is one, spelled out at its top
+abbrev pub spell_one : Option ℕ → List Formula → List Formula
+spell_one None fs = fs
+spell_one (Some k) fs = spell_nth k fs
+
 -- formulas from place k on, each read as an item of its place is
-unfoldable pub read_from : (k spelled : ℕ) → List Formula → List Formula
+unfoldable pub read_from : ℕ → Option ℕ → List Formula → List Formula
 read_from k spelled [] = []
 read_from k spelled (f ∷ fs) = read_as (how_of k spelled) f ∷ read_from (suc k) spelled fs
 
 -- the items from place k on
-abbrev pub items_from : (m items : List ℕ) (spelled k : ℕ) → List Formula
+abbrev pub items_from : (m items : List ℕ) (spelled : Option ℕ) (k : ℕ) → List Formula
 items_from m items spelled k = read_from k spelled (drop k (map (told m) items))
 
 -- the items are numbers of held formulas
@@ -103,15 +109,15 @@ pub record Listed (m items : List ℕ) : Type 0 where
   pub few : length items ≤ 31
   pub below : Below (count m) items
 
-pub record ZoneShown (m items : List ℕ) (spelled : ℕ) (s : List ℕ) (zone : Span) (r : Bool) : Type 0 where
-  pub right : (fs : List Formula) → Holds s zone fs → r ≡ same_zone (spell_nth spelled (map (told m) items)) fs
+pub record ZoneShown (m items : List ℕ) (spelled : Option ℕ) (s : List ℕ) (zone : Span) (r : Bool) : Type 0 where
+  pub right : (fs : List Formula) → Holds s zone fs → r ≡ same_zone (spell_one spelled (map (told m) items)) fs
 
 -- the items from place k on are still to be compared with what the zone holds from p on: the loop's invariant
-module _ (m items : List ℕ) (spelled : ℕ) (s : List ℕ) (start end p k : ℕ) where
+module _ (m items : List ℕ) (spelled : Option ℕ) (s : List ℕ) (start end p k : ℕ) where
   pub record Remaining (fs : List Formula) : Type 0 where
     pub rest : List Formula
     pub holds : Holds s (record { start = p; end = end }) rest
-    pub so : same_zone (spell_nth spelled (map (told m) items)) fs ≡ same_zone (items_from m items spelled k) rest
+    pub so : same_zone (spell_one spelled (map (told m) items)) fs ≡ same_zone (items_from m items spelled k) rest
 
   pub record Showing : Type 0 where
     pub few : k ≤ length items

@@ -27,31 +27,37 @@ use Rattle.zones.specs.Zones.{linears, unrestricteds, meant}
 use Rattle.zones.specs.ZonesLaws.{linears_length, unrestricteds_length}
 use Rattle.expand.specs.Writing.{Sound, FirstAt}
 use Rattle.short.specs.Shortening.{same_zone, same_sequent}
-use Rattle.shown.specs.Matching.{Comparing, Matches, how_of, spell_nth, read_from, items_from, Listed, ZoneShown, Remaining, Showing, UnrestrictedShown, Shown}
+use Rattle.shown.specs.Matching.{Comparing, Matches, how_of, spell_nth, spell_one, read_from, items_from, Listed, ZoneShown, Remaining, Showing, UnrestrictedShown, Shown}
 use Rattle.shown.specs.MatchingLaws.{matched_same, matched_different, next_inside}
 
 -- ---- how items are read
 
-pub how_here : (k spelled : ℕ) → k ≡ spelled → how_of k spelled ≡ Spelled
+pub how_here : (k spelled : ℕ) → k ≡ spelled → how_of k (Some spelled) ≡ Spelled
 how_here k spelled e = rw (eq-eqb k spelled e, how_of)
 
-pub how_elsewhere : (k spelled : ℕ) → (k ≡ spelled → ⊥) → how_of k spelled ≡ Plain
+pub how_elsewhere : (k spelled : ℕ) → (k ≡ spelled → ⊥) → how_of k (Some spelled) ≡ Plain
 how_elsewhere k spelled h = rw (ne_eqb k spelled h, how_of)
 
 -- past its place nothing is spelled out
-read_past : (k spelled : ℕ) → spelled < k → (fs : List Formula) → read_from k spelled fs ≡ fs
+read_past : (k spelled : ℕ) → spelled < k → (fs : List Formula) → read_from k (Some spelled) fs ≡ fs
 unfolding read_from read_as
 read_past k spelled h [] = refl
 read_past k spelled h (f ∷ fs) = ap₂ ◌∷◌ (ap (λ how. read_as how f) (how_elsewhere k spelled (λ e. omega arith))) (read_past (suc k) spelled (omega arith) fs)
 
-read_nth : (k j spelled : ℕ) → spelled ≡ k + j → (fs : List Formula) → read_from k spelled fs ≡ spell_nth j fs
+read_nth : (k j spelled : ℕ) → spelled ≡ k + j → (fs : List Formula) → read_from k (Some spelled) fs ≡ spell_nth j fs
 unfolding read_from read_as spell_nth
 read_nth k j spelled e [] = refl
 read_nth k zero spelled e (f ∷ fs) = ap₂ ◌∷◌ (ap (λ how. read_as how f) (how_here k spelled (omega arith))) (read_past (suc k) spelled (omega arith) fs)
 read_nth k (suc j) spelled e (f ∷ fs) = ap₂ ◌∷◌ (ap (λ how. read_as how f) (how_elsewhere k spelled (λ d. omega arith))) (read_nth (suc k) j spelled (omega arith) fs)
 
-pub read_all : (spelled : ℕ) (fs : List Formula) → read_from 0 spelled fs ≡ spell_nth spelled fs
-read_all spelled fs = read_nth 0 spelled spelled (omega arith) fs
+read_plain : (k : ℕ) (fs : List Formula) → read_from k None fs ≡ fs
+unfolding read_from read_as
+read_plain k [] = refl
+read_plain k (f ∷ fs) = ap (λ gs. f ∷ gs) (read_plain (suc k) fs)
+
+pub read_all : (spelled : Option ℕ) (fs : List Formula) → read_from 0 spelled fs ≡ spell_one spelled fs
+read_all None fs = read_plain 0 fs
+read_all (Some spelled) fs = read_nth 0 spelled spelled (omega arith) fs
 
 -- past the last formula nothing is spelled out
 pub spell_none : (k : ℕ) (fs : List Formula) → length fs ≤ k → spell_nth k fs ≡ fs
@@ -127,7 +133,7 @@ over {p = p} {end} (g ∷ gs) holds = ne_eqb p end λ e. omega (arith, holds_som
 
 -- ---- the loop over items and formulas
 
-module _ {m items : List ℕ} {spelled : ℕ} {s : List ℕ} {start end : ℕ} (z : Listed m items) where
+module _ {m items : List ℕ} {spelled : Option ℕ} {s : List ℕ} {start end : ℕ} (z : Listed m items) where
   pub showing_start : start ≤ length s → Showing m items spelled s start end start 0
   showing_start h = record {
     few = omega arith;
@@ -161,7 +167,7 @@ module _ {m items : List ℕ} {spelled : ℕ} {s : List ℕ} {start end : ℕ} (
       first_left fs l = holds_first l.rest l.holds more
 
       first_so : (fs : List Formula) (l : Remaining m items spelled s start end p k fs)
-          → same_zone (spell_nth spelled (map (told m) items)) fs ≡ same (first_left fs l).formula (read_as how (told m (get_or items k 0))) && same_zone later (first_left fs l).others
+          → same_zone (spell_one spelled (map (told m) items)) fs ≡ same (first_left fs l).formula (read_as how (told m (get_or items k 0))) && same_zone later (first_left fs l).others
       first_so fs l =
           l.so
           ∙ next_item h l.rest
@@ -211,12 +217,8 @@ module _ {m : List ℕ} {z : Zones} (sound : Sound m z) where
   pub unrestricted_listed : Listed m (unrestricteds z)
   unrestricted_listed = record { wf = sound.wf; few = omega (arith, unrestricteds_length sound.fits, sound.fits.few); below = sound.within.unrestricted }
 
-  pub unrestricted_is : {s : List ℕ} {zone : Span} {r : Bool} → ZoneShown m (unrestricteds z) 31 s zone r → UnrestrictedShown m z s zone r
-  unrestricted_is c = record {
-    right = λ fs holds.
-        let n = told_length unrestricted_listed in
-        c.right fs holds ∙ ap (λ gs. same_zone gs fs) (spell_none 31 (meant (told m) z).unrestricted (omega (arith, unrestricted_listed.few)));
-  }
+  pub unrestricted_is : {s : List ℕ} {zone : Span} {r : Bool} → ZoneShown m (unrestricteds z) None s zone r → UnrestrictedShown m z s zone r
+  unrestricted_is c = record { right = c.right }
 
   -- the first decomposable formula is the one at the place found
   first_spelled : {i : ℕ} → FirstAt m z i → spell_first (meant (told m) z).linear ≡ spell_nth i (map (told m) (linears z))
@@ -231,7 +233,7 @@ module _ {m : List ℕ} {z : Zones} (sound : Sound m z) where
       named_item k h = told_getD linear_listed k (omega (arith, linears_length sound.fits)) ∙ ap (told m) (get_or-take z.linear_len z.linear k 0 h)
 
   module _ {s : List ℕ} {place i : ℕ} {n : Node} {linear : Bool} (found : NodeFound s place n) (first : FirstAt m z i)
-      (shown : ZoneShown m (linears z) i s n.linear linear) where
+      (shown : ZoneShown m (linears z) (Some i) s n.linear linear) where
     linear_so : (q : Sequent) → Holds s n.linear q.linear → linear ≡ same_zone (spell_first (meant (told m) z).linear) q.linear
     linear_so q holds = shown.right q.linear holds ∙ ap (λ gs. same_zone gs q.linear) (sym (first_spelled first))
 

@@ -68,19 +68,19 @@ pub fn matches(mem: &[u16], x: usize, how: How, s: &[u8], at: usize) -> Option<u
     }
 }
 
-// How the item at place k is read, where the one at place `spelled` is spelled out.
-fn how_at(k: usize, spelled: usize) -> How
+// How the item at place k is read, where the one at place `spelled`, if there is one, is spelled out.
+fn how_at(k: usize, spelled: Option<usize>) -> How
     ensures { result ≡ how_of k spelled }
 {
-    if k == spelled {
+    if spelled == Some(k) {
         How::Spelled
     } else {
         How::Plain
     }
 }
 
-// Whether the items are the formulas of the zone, in order, the one at place `spelled` spelled out at its top.
-pub fn zone_shown(mem: &[u16], items: &[u16], spelled: usize, s: &[u8], zone: Span) -> bool
+// Whether the items are the formulas of the zone, in order, the one at place `spelled`, if there is one, spelled out at its top.
+pub fn zone_shown(mem: &[u16], items: &[u16], spelled: Option<usize>, s: &[u8], zone: Span) -> bool
     requires { Listed mem.now items.now × Within (length s.now) zone }
     ensures { ZoneShown mem.now items.now spelled s.now zone result }
 {
@@ -98,16 +98,13 @@ pub fn zone_shown(mem: &[u16], items: &[u16], spelled: usize, s: &[u8], zone: Sp
     p == end
 }
 
-// Past every place: no item is spelled out.
-const NOWHERE: usize = 31;
-
 // Whether the unrestricted zone is this one.
 pub fn unrestricted_shown(mem: &[u16], z: Zones, s: &[u8], zone: Span) -> bool
     requires { Sound mem.now z × Within (length s.now) zone }
     ensures { UnrestrictedShown mem.now z s.now zone result }
 {
     let items = &z.unrestricted[..z.unrestricted_len];
-    zone_shown(mem, items, NOWHERE, s, zone)
+    zone_shown(mem, items, None, s, zone)
 }
 
 // Whether the node at a place concludes the sequent, an implication that is the first decomposable formula spelled out.
@@ -118,7 +115,7 @@ pub fn is_shown(mem: &[u16], z: Zones, s: &[u8], at: usize) -> bool
     let node = node_at(s, at);
     let first = first_decomposable(mem, z);
     let items = &z.linear[..z.linear_len];
-    if !zone_shown(mem, items, first, s, node.linear) {
+    if !zone_shown(mem, items, Some(first), s, node.linear) {
         return false;
     }
     unrestricted_shown(mem, z, s, node.unrestricted)

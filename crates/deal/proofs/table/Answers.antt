@@ -1,5 +1,4 @@
 use mathlib.Core.Path.{refl}
-use native.Mathlib.Omega.{arith}
 use Rattle.deal.proofs.Steps.{filled_start, filled_before, filled_step, filled_end}
 use Rattle.deal.proofs.table.Goals as goal
 
@@ -11,9 +10,6 @@ fill-requires c = filled_before c.requires c.loop-i.invariant c.loop-i-test.true
 
 pub loop-i-preserved : goal.loop-i-preserved
 loop-i-preserved c = filled_step c.requires c.loop-i.invariant c.loop-i-test.true c.fill.ensures
-
-pub bounds-row-0 : goal.bounds-row-0
-bounds-row-0 c = omega (arith, c.loop-i.invariant.long)
 
 pub returns : goal.returns
 returns c = filled_end c.requires c.loop-i.invariant c.loop-i-test.false

@@ -1,36 +1,9 @@
-use Rattle.shown.specs.MatchingLaws.{tag_low, one_falls, two_fall, part_compares, next_inside, match_told, match_one, match_left, match_two}
+use Rattle.shown.specs.MatchingLaws.{one_falls, two_fall, part_compares, next_inside, match_told, match_one, match_left, match_two}
 use native.Mathlib.Omega.{arith}
 use Rattle.shown.proofs.+matches.Goals as goal
 
-pub field-tag-requires : goal.field-tag-requires
-field-tag-requires t c = ((omega (arith, c.requires.low, c.requires.wf.few), omega arith), c.requires.wf.sized)
-
-pub overflow_cast-tag : goal.overflow_cast-tag
-overflow_cast-tag t c = omega (arith, c.field-tag.ensures.value, tag_low c.requires.wf c.requires.low)
-
-pub field-a-requires : goal.field-a-requires
-field-a-requires t c = ((omega (arith, c.requires.low, c.requires.wf.few), omega arith), c.requires.wf.sized)
-
-pub after-requires : goal.after-requires
-after-requires t c = c.requires.inside
-
 pub matches-requires : goal.matches-requires
 matches-requires t c = (omega (arith, c.decreases, c.field-a.ensures.value, one_falls c.match_tops.ensures c.in-One.is), part_compares c.requires c.field-a.ensures (one_falls c.match_tops.ensures c.in-One.is) (omega (arith, c.after.ensures)))
-
-pub field-tag-requires-in-Two : goal.field-tag-requires-in-Two
-field-tag-requires-in-Two t c = ((omega (arith, c.requires.low, c.requires.wf.few), omega arith), c.requires.wf.sized)
-
-pub overflow_cast-tag-in-Two : goal.overflow_cast-tag-in-Two
-overflow_cast-tag-in-Two t c = omega (arith, c.field-tag-in-Two.ensures.value, tag_low c.requires.wf c.requires.low)
-
-pub field-a-requires-in-Two : goal.field-a-requires-in-Two
-field-a-requires-in-Two t c = ((omega (arith, c.requires.low, c.requires.wf.few), omega arith), c.requires.wf.sized)
-
-pub field-b-requires : goal.field-b-requires
-field-b-requires t c = ((omega (arith, c.requires.low, c.requires.wf.few), omega arith), c.requires.wf.sized)
-
-pub after-requires-in-Two : goal.after-requires-in-Two
-after-requires-in-Two t c = c.requires.inside
 
 pub matches-requires-in-Two : goal.matches-requires-in-Two
 matches-requires-in-Two t c = (omega (arith, c.decreases, c.field-a-in-Two.ensures.value, (two_fall c.match_tops.ensures c.in-Two.is).0), part_compares c.requires c.field-a-in-Two.ensures (two_fall c.match_tops.ensures c.in-Two.is).0 (omega (arith, c.after-in-Two.ensures)))

@@ -7,8 +7,5 @@ zone_shown-requires c = (linear_listed c.requires.0, c.node_at-node.ensures.with
 pub returns-then-not-zone_shown : goal.returns-then-not-zone_shown
 returns-then-not-zone_shown c = other_linear c.requires.0 c.node_at-node.ensures c.first_decomposable-first.ensures c.zone_shown.ensures c.if-not-zone_shown.true
 
-pub unrestricted_shown-requires : goal.unrestricted_shown-requires
-unrestricted_shown-requires c = (c.requires.0, c.node_at-node.ensures.within.unrestricted_within)
-
 pub returns : goal.returns
 returns c = sequent_shown c.requires.0 c.node_at-node.ensures c.first_decomposable-first.ensures c.zone_shown.ensures c.if-not-zone_shown.false c.unrestricted_shown.ensures

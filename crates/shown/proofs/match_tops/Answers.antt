@@ -1,9 +1,6 @@
-use Rattle.shown.specs.MatchingLaws.{tag_low, tops_other, tops_unit, tops_names_other, tops_names, tops_one, tops_two}
+use Rattle.shown.specs.MatchingLaws.{tops_other, tops_unit, tops_names_other, tops_names, tops_one, tops_two}
 use native.Mathlib.Omega.{arith}
 use Rattle.shown.proofs.match_tops.Goals as goal
-
-pub overflow_cast-tag : goal.overflow_cast-tag
-overflow_cast-tag c = omega (arith, c.field-tag.ensures.value, tag_low c.requires.wf c.requires.low)
 
 pub returns-then-byte_at-t : goal.returns-then-byte_at-t
 returns-then-byte_at-t c = tops_other _ c.requires c.field-tag.ensures c.sign-t.ensures c.byte_at.ensures c.if-byte_at-t.true
