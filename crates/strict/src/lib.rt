@@ -48,9 +48,10 @@ fn part_end(s: &[u8], at: usize, end: usize) -> usize
     ensures { PartEnds s.now at end result }
 {
     if at < end {
-        return tree::next_formula(s, at, end);
+        tree::next_formula(s, at, end)
+    } else {
+        end
     }
-    end
 }
 
 // How the left part of a formula with this tag is read. That of an implication is negated.
@@ -97,9 +98,8 @@ fn plain(run: Run) -> Run
     ensures { PlainRun run result }
 {
     Run {
-        at: run.at,
-        end: run.end,
         how: How::Plain,
+        ..run
     }
 }
 
@@ -108,8 +108,11 @@ fn stands_in(s: &[u8], f: Run, zone: Run) -> bool
     requires { RunWithin (length s.now) f × RunWithin (length s.now) zone }
     ensures { StandsIn s.now f zone result }
 {
-    let how = f.how;
-    bags::times(s, zone, Place { at: f.at, how }) > 0
+    let x = Place {
+        at: f.at,
+        how: f.how,
+    };
+    bags::times(s, zone, x) > 0
 }
 
 fn keeps_zone(s: &[u8], q: Node, p: Node) -> bool
@@ -127,32 +130,24 @@ fn bottom_step(s: &[u8], f: Principal, q: Node, p: Node) -> bool
     requires { Ready s.now f q p }
     ensures { StepIs s.now f q p bottom_step result }
 {
-    if f.tag != 1 {
-        return false;
-    }
-    let whole = f.whole;
-    bags::same_bag(
-        s,
-        bags::one_run(linear(q)),
-        bags::two_runs(whole, linear(p)),
-    )
+    f.tag == 1
+        && bags::same_bag(
+            s,
+            bags::one_run(linear(q)),
+            bags::two_runs(f.whole, linear(p)),
+        )
 }
 
 fn par_step(s: &[u8], f: Principal, q: Node, p: Node) -> bool
     requires { Ready s.now f q p }
     ensures { StepIs s.now f q p par_step result }
 {
-    if f.tag != 7 {
-        return false;
-    }
-    let whole = f.whole;
-    let left = f.left;
-    let right = f.right;
-    bags::same_bag(
-        s,
-        bags::two_runs(whole, linear(p)),
-        bags::three_runs(left, right, linear(q)),
-    )
+    f.tag == 7
+        && bags::same_bag(
+            s,
+            bags::two_runs(f.whole, linear(p)),
+            bags::three_runs(f.left, f.right, linear(q)),
+        )
 }
 
 // One part in the place of the whole.
@@ -171,88 +166,54 @@ fn with_step(s: &[u8], f: Principal, q: Node, p: Node, p2: Node) -> bool
     requires { Ready s.now f q p × NodeInside (length s.now) p2 }
     ensures { TwoStepsAre s.now f q p p2 with_step result }
 {
-    if f.tag != 8 {
-        return false;
-    }
-    let whole = f.whole;
-    let left = f.left;
-    let right = f.right;
-    if !is_replaced(s, whole, left, q, p) {
-        return false;
-    }
-    is_replaced(s, whole, right, q, p2)
+    f.tag == 8 && is_replaced(s, f.whole, f.left, q, p) && is_replaced(s, f.whole, f.right, q, p2)
 }
 
 fn plus_step(s: &[u8], f: Principal, part: Run, q: Node, p: Node) -> bool
     requires { Ready s.now f q p × RunWithin (length s.now) part }
     ensures { PartStepIs s.now f q p part result }
 {
-    if f.tag != 9 {
-        return false;
-    }
-    let whole = f.whole;
-    is_replaced(s, whole, part, q, p)
+    f.tag == 9 && is_replaced(s, f.whole, part, q, p)
 }
 
 fn tensor_step(s: &[u8], f: Principal, q: Node, p: Node, p2: Node) -> bool
     requires { Ready s.now f q p × NodeInside (length s.now) p2 }
     ensures { TwoStepsAre s.now f q p p2 tensor_step result }
 {
-    if f.tag != 6 {
-        return false;
-    }
-    let whole = f.whole;
-    let left = f.left;
-    let right = f.right;
-    if !stands_in(s, left, linear(p)) {
-        return false;
-    }
-    if !stands_in(s, right, linear(p2)) {
-        return false;
-    }
-    bags::same_bag(
-        s,
-        bags::three_runs(whole, linear(p), linear(p2)),
-        bags::three_runs(left, right, linear(q)),
-    )
+    f.tag == 6
+        && stands_in(s, f.left, linear(p))
+        && stands_in(s, f.right, linear(p2))
+        && bags::same_bag(
+            s,
+            bags::three_runs(f.whole, linear(p), linear(p2)),
+            bags::three_runs(f.left, f.right, linear(q)),
+        )
 }
 
 fn of_course_step(s: &[u8], f: Principal, q: Node, p: Node) -> bool
     requires { Ready s.now f q p }
     ensures { StepIs s.now f q p of_course_step result }
 {
-    if f.tag != 11 {
-        return false;
-    }
-    let whole = f.whole;
-    let left = f.left;
-    if !bags::same_bag(s, bags::one_run(linear(q)), bags::one_run(whole)) {
-        return false;
-    }
-    bags::same_bag(s, bags::one_run(linear(p)), bags::one_run(left))
+    f.tag == 11
+        && bags::same_bag(s, bags::one_run(linear(q)), bags::one_run(f.whole))
+        && bags::same_bag(s, bags::one_run(linear(p)), bags::one_run(f.left))
 }
 
 fn why_not_step(s: &[u8], f: Principal, q: Node, p: Node) -> bool
     requires { Ready s.now f q p }
     ensures { StepIs s.now f q p why_not_step result }
 {
-    if f.tag != 12 {
-        return false;
-    }
-    let whole = f.whole;
-    let left = f.left;
-    if !bags::same_bag(
-        s,
-        bags::one_run(linear(q)),
-        bags::two_runs(whole, linear(p)),
-    ) {
-        return false;
-    }
-    bags::same_bag(
-        s,
-        bags::one_run(unrestricted(p)),
-        bags::two_runs(plain(left), unrestricted(q)),
-    )
+    f.tag == 12
+        && bags::same_bag(
+            s,
+            bags::one_run(linear(q)),
+            bags::two_runs(f.whole, linear(p)),
+        )
+        && bags::same_bag(
+            s,
+            bags::one_run(unrestricted(p)),
+            bags::two_runs(plain(f.left), unrestricted(q)),
+        )
 }
 
 // The formula is taken out of the unrestricted zone.
@@ -260,11 +221,10 @@ fn takes_out(s: &[u8], f: Principal, q: Node, p: Node) -> bool
     requires { Ready s.now f q p }
     ensures { StepIs s.now f q p takes_out result }
 {
-    let whole = f.whole;
     bags::same_bag(
         s,
         bags::one_run(unrestricted(q)),
-        bags::two_runs(plain(whole), unrestricted(p)),
+        bags::two_runs(plain(f.whole), unrestricted(p)),
     )
 }
 
@@ -272,40 +232,29 @@ fn weakening_step(s: &[u8], f: Principal, q: Node, p: Node) -> bool
     requires { Ready s.now f q p }
     ensures { StepIs s.now f q p weakening_step result }
 {
-    if !bags::same_bag(s, bags::one_run(linear(p)), bags::one_run(linear(q))) {
-        return false;
-    }
-    takes_out(s, f, q, p)
+    bags::same_bag(s, bags::one_run(linear(p)), bags::one_run(linear(q))) && takes_out(s, f, q, p)
 }
 
 fn contraction_step(s: &[u8], f: Principal, q: Node, p: Node) -> bool
     requires { Ready s.now f q p }
     ensures { StepIs s.now f q p contraction_step result }
 {
-    let whole = f.whole;
-    if !bags::same_bag(
+    bags::same_bag(
         s,
         bags::one_run(linear(p)),
-        bags::three_runs(whole, whole, linear(q)),
-    ) {
-        return false;
-    }
-    takes_out(s, f, q, p)
+        bags::three_runs(f.whole, f.whole, linear(q)),
+    ) && takes_out(s, f, q, p)
 }
 
 fn dereliction_step(s: &[u8], f: Principal, q: Node, p: Node) -> bool
     requires { Ready s.now f q p }
     ensures { StepIs s.now f q p dereliction_step result }
 {
-    let whole = f.whole;
-    if !bags::same_bag(
+    bags::same_bag(
         s,
         bags::one_run(linear(p)),
-        bags::two_runs(whole, linear(q)),
-    ) {
-        return false;
-    }
-    takes_out(s, f, q, p)
+        bags::two_runs(f.whole, linear(q)),
+    ) && takes_out(s, f, q, p)
 }
 
 // The step is legal with this formula as the principal one, but for the unrestricted zones that it keeps.
@@ -313,16 +262,13 @@ fn step_at(s: &[u8], f: Principal, q: Node, p: Node, p2: Node) -> bool
     requires { Ready s.now f q p × NodeInside (length s.now) p2 }
     ensures { StepAt s.now f q p p2 result }
 {
-    let rule = q.rule;
-    let left = f.left;
-    let right = f.right;
-    match rule {
+    match q.rule {
         3 => bottom_step(s, f, q, p),
         4 => tensor_step(s, f, q, p, p2),
         5 => par_step(s, f, q, p),
         7 => with_step(s, f, q, p, p2),
-        8 => plus_step(s, f, left, q, p),
-        9 => plus_step(s, f, right, q, p),
+        8 => plus_step(s, f, f.left, q, p),
+        9 => plus_step(s, f, f.right, q, p),
         10 => of_course_step(s, f, q, p),
         11 => why_not_step(s, f, q, p),
         12 => weakening_step(s, f, q, p),
@@ -337,10 +283,10 @@ fn some_step(s: &[u8], zone: Span, q: Node, p: Node, p2: Node) -> bool
     requires { Short s.now × Within (length s.now) zone × NodeInside (length s.now) q × NodeInside (length s.now) p × NodeInside (length s.now) p2 }
     ensures { SomeStep s.now zone q p p2 result }
 {
-    let end = zone.end;
     let mut x = zone.start;
-    while x < end {
-        let next = tree::next_formula(s, x, end);
+    // From formula to formula: no `for` over the bytes.
+    while x < zone.end {
+        let next = tree::next_formula(s, x, zone.end);
         if step_at(s, principal_at(s, x, next), q, p, p2) {
             return true;
         }
@@ -361,21 +307,16 @@ fn cut_step(s: &[u8], q: Node, p: Node, p2: Node) -> bool
         how: How::Spelled,
     };
     let dual = Run {
-        at,
-        end,
         how: How::Negated,
+        ..cut
     };
-    if !stands_in(s, cut, linear(p)) {
-        return false;
-    }
-    if !stands_in(s, dual, linear(p2)) {
-        return false;
-    }
-    bags::same_bag(
-        s,
-        bags::two_runs(linear(p), linear(p2)),
-        bags::three_runs(cut, dual, linear(q)),
-    )
+    stands_in(s, cut, linear(p))
+        && stands_in(s, dual, linear(p2))
+        && bags::same_bag(
+            s,
+            bags::two_runs(linear(p), linear(p2)),
+            bags::three_runs(cut, dual, linear(q)),
+        )
 }
 
 fn one_premise(s: &[u8], q: Node) -> bool
@@ -383,18 +324,10 @@ fn one_premise(s: &[u8], q: Node) -> bool
     ensures { OnePremise s.now q result }
 {
     let p = tree::node_at(s, q.next);
-    let linear = q.linear;
-    let unrestricted = q.unrestricted;
     if q.rule > 11 {
-        return some_step(s, unrestricted, q, p, p);
+        return some_step(s, q.unrestricted, q, p, p);
     }
-    if q.rule == 11 {
-        return some_step(s, linear, q, p, p);
-    }
-    if !keeps_zone(s, q, p) {
-        return false;
-    }
-    some_step(s, linear, q, p, p)
+    (q.rule == 11 || keeps_zone(s, q, p)) && some_step(s, q.linear, q, p, p)
 }
 
 fn two_premises(s: &[u8], q: Node) -> bool
@@ -403,17 +336,14 @@ fn two_premises(s: &[u8], q: Node) -> bool
 {
     let p = tree::node_at(s, q.next);
     let p2 = tree::node_at(s, tree::after_tree(s, q.next));
-    let linear = q.linear;
-    if !keeps_zone(s, q, p) {
-        return false;
-    }
-    if !keeps_zone(s, q, p2) {
+    if !keeps_zone(s, q, p) || !keeps_zone(s, q, p2) {
         return false;
     }
     if q.rule == 1 {
-        return cut_step(s, q, p, p2);
+        cut_step(s, q, p, p2)
+    } else {
+        some_step(s, q.linear, q, p, p2)
     }
-    some_step(s, linear, q, p, p2)
 }
 
 // The step at a node that shape mode passes is legal. Shape mode has then tested the leaves, and each rule's premises are as many as it wants; focus rules and Blur are no steps.
@@ -424,11 +354,9 @@ pub fn legal(s: &[u8], q: Node) -> bool
     if q.rule > 14 {
         return false;
     }
-    if q.premises == 0 {
-        return true;
+    match q.premises {
+        0 => true,
+        1 => one_premise(s, q),
+        _ => two_premises(s, q),
     }
-    if q.premises == 1 {
-        return one_premise(s, q);
-    }
-    two_premises(s, q)
 }

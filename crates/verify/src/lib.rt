@@ -75,14 +75,13 @@ fn has_tag(s: &[u8], zone: Span, tag: u8) -> bool
     requires { Within (length s.now) zone }
     ensures { HasTag s.now zone tag result }
 {
-    let end = zone.end;
     let mut p = zone.start;
     // From formula to formula: no `for` over the bytes.
-    while p < end {
+    while p < zone.end {
         if s[p] == tag {
             return true;
         }
-        p = tree::next_formula(s, p, end);
+        p = tree::next_formula(s, p, zone.end);
     }
     false
 }

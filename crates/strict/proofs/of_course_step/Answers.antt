@@ -1,22 +1,32 @@
+use Rattle.std.proofs.Common.{sym, ◌∙◌, arith}
 use Rattle.strict.specs.StepsLaws.{of_course_other, of_course_no, of_course_told}
-use mathlib.Core.Path.{sym, ◌∙◌}
-use native.Mathlib.Omega.{arith}
+use borrow.Author.Tests.{eqb-true}
 use Rattle.strict.proofs.of_course_step.Goals as goal
-
-pub returns-then-f-ne11 : goal.returns-then-f-ne11
-returns-then-f-ne11 c = record { right = λ x Q P x_is q_is p_is. of_course_other x Q P (λ e. c.if-f-ne11.true (x_is.tag_is ∙ e)) }
+use Rattle.strict.proofs.of_course_step.Goals.{then-f-eq11, else-f-eq11}
 
 pub same_bag-requires : goal.same_bag-requires
 same_bag-requires c = let asked = c.requires in
-    (asked.short, c.one_run.ensures.within _ (c.linear.ensures.within asked.conclusion_inside), c.one_run-2.ensures.within _ asked.principal_within.whole_within)
+    (asked.short, c.one_run.ensures.within _ (c.linear.ensures.within asked.conclusion_inside), c.one_run-then-f-eq11.ensures.within _ asked.principal_within.whole_within)
 
-pub returns-then-not-same_bag : goal.returns-then-not-same_bag
-returns-then-not-same_bag c = record { right = λ x Q P x_is q_is p_is. of_course_no x Q P (sym x_is.tag_is ∙ c.if-f-ne11.false) (c.same_bag.ensures.right _ _ (c.one_run.ensures.reads _ (c.linear.ensures.reads q_is)) (c.one_run-2.ensures.reads _ x_is.whole_reads)) c.if-not-same_bag.true }
+pub same_bag-requires-then-same_bag : goal.same_bag-requires-then-same_bag
+same_bag-requires-then-same_bag c = let asked = c.requires in
+    (asked.short, c.one_run-then-same_bag.ensures.within _ (c.linear-then-same_bag.ensures.within asked.premise_inside), c.one_run-then-same_bag-2.ensures.within _ asked.principal_within.left_within)
 
-pub same_bag-requires-2 : goal.same_bag-requires-2
-same_bag-requires-2 c = let asked = c.requires in
-    (asked.short, c.one_run-3.ensures.within _ (c.linear-2.ensures.within asked.premise_inside), c.one_run-4.ensures.within _ asked.principal_within.left_within)
+pub returns-then-same_bag : goal.returns-then-same_bag
+returns-then-same_bag c = record {
+  right = λ x Q P x_is q_is p_is.
+      elim c.if-f-eq11.branch [
+        | then-f-eq11 w ↦ let tag = w.if-f-eq11.true in
+            of_course_told x Q P (sym x_is.tag_is ∙ tag) (w.same_bag.ensures.right _ _ (w.one_run.ensures.reads _ (w.linear.ensures.reads q_is)) (w.one_run-then-f-eq11.ensures.reads _ x_is.whole_reads)) (sym w.value-is ∙ c.if-same_bag.true) (c.same_bag-then-same_bag.ensures.right _ _ (c.one_run-then-same_bag.ensures.reads _ (c.linear-then-same_bag.ensures.reads p_is)) (c.one_run-then-same_bag-2.ensures.reads _ (x_is.left_reads (omega (arith, tag)))))
+        | else-f-eq11 w ↦ absurd (w.if-f-eq11.false (eqb-true _ _ (sym w.value-is ∙ c.if-same_bag.true)))
+      ];
+}
 
-pub returns : goal.returns
-returns c = let tag = c.if-f-ne11.false in
-    record { right = λ x Q P x_is q_is p_is. of_course_told x Q P (sym x_is.tag_is ∙ tag) (c.same_bag.ensures.right _ _ (c.one_run.ensures.reads _ (c.linear.ensures.reads q_is)) (c.one_run-2.ensures.reads _ x_is.whole_reads)) c.if-not-same_bag.false (c.same_bag-2.ensures.right _ _ (c.one_run-3.ensures.reads _ (c.linear-2.ensures.reads p_is)) (c.one_run-4.ensures.reads _ (x_is.left_reads (omega (arith, tag))))) }
+pub returns-else-same_bag : goal.returns-else-same_bag
+returns-else-same_bag c = record {
+  right = λ x Q P x_is q_is p_is.
+      c.if-same_bag.false ∙ elim c.if-f-eq11.branch [
+        | then-f-eq11 w ↦ of_course_no x Q P (sym x_is.tag_is ∙ w.if-f-eq11.true) (w.same_bag.ensures.right _ _ (w.one_run.ensures.reads _ (w.linear.ensures.reads q_is)) (w.one_run-then-f-eq11.ensures.reads _ x_is.whole_reads)) (sym w.value-is ∙ c.if-same_bag.false)
+        | else-f-eq11 w ↦ of_course_other x Q P (λ e. w.if-f-eq11.false (x_is.tag_is ∙ e))
+      ];
+}

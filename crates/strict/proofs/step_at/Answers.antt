@@ -5,39 +5,6 @@ use Rattle.strict.specs.Steps.{step_by}
 use Rattle.strict.specs.RulesLaws.{step_found, step_none}
 use Rattle.strict.proofs.step_at.Goals as goal
 
-pub bottom_step-requires : goal.bottom_step-requires
-bottom_step-requires c = c.requires.0
-
-pub tensor_step-requires : goal.tensor_step-requires
-tensor_step-requires c = c.requires
-
-pub par_step-requires : goal.par_step-requires
-par_step-requires c = c.requires.0
-
-pub with_step-requires : goal.with_step-requires
-with_step-requires c = c.requires
-
-pub plus_step-requires : goal.plus_step-requires
-plus_step-requires c = (c.requires.0, c.requires.0.principal_within.left_within)
-
-pub plus_step-requires-in-9 : goal.plus_step-requires-in-9
-plus_step-requires-in-9 c = (c.requires.0, c.requires.0.principal_within.right_within)
-
-pub of_course_step-requires : goal.of_course_step-requires
-of_course_step-requires c = c.requires.0
-
-pub why_not_step-requires : goal.why_not_step-requires
-why_not_step-requires c = c.requires.0
-
-pub weakening_step-requires : goal.weakening_step-requires
-weakening_step-requires c = c.requires.0
-
-pub contraction_step-requires : goal.contraction_step-requires
-contraction_step-requires c = c.requires.0
-
-pub dereliction_step-requires : goal.dereliction_step-requires
-dereliction_step-requires c = c.requires.0
-
 pub returns-in-3 : goal.returns-in-3
 unfolding step_by
 returns-in-3 c = step_found c.in-3.is λ x Q P P' here q_is p_is p'_is. c.bottom_step.ensures.right x Q P here q_is p_is

@@ -1,31 +1,48 @@
+use Rattle.std.proofs.Common.{sym, ◌∙◌, arith}
+use Rattle.std.proofs.lemmas.Bool.{false≢true}
+use borrow.Author.Tests.{eqb-true}
 use Rattle.strict.specs.StepsLaws.{tensor_other, tensor_no_left, tensor_no_right, tensor_told}
-use mathlib.Core.Path.{sym, ◌∙◌}
-use native.Mathlib.Omega.{arith}
 use Rattle.strict.proofs.tensor_step.Goals as goal
-
-pub returns-then-f-ne6 : goal.returns-then-f-ne6
-returns-then-f-ne6 c = record { right = λ x Q P P' x_is q_is p_is p'_is. tensor_other x Q P P' (λ e. c.if-f-ne6.true (x_is.tag_is ∙ e)) }
+use Rattle.strict.proofs.tensor_step.Goals.{then-f-eq6, else-f-eq6, then-stands_in, else-stands_in}
 
 pub stands_in-requires : goal.stands_in-requires
 stands_in-requires c = let asked = c.requires in
     (asked.0.principal_within.left_within, c.linear.ensures.within asked.0.premise_inside)
 
-pub returns-then-not-stands_in : goal.returns-then-not-stands_in
-returns-then-not-stands_in c = let tag = c.if-f-ne6.false in
-    record { right = λ x Q P P' x_is q_is p_is p'_is. tensor_no_left x Q P P' (sym x_is.tag_is ∙ tag) (c.stands_in.ensures.right (x_is.left_reads (omega (arith, tag))) (c.linear.ensures.reads p_is)) c.if-not-stands_in.true }
-
-pub stands_in-requires-2 : goal.stands_in-requires-2
-stands_in-requires-2 c = let asked = c.requires in
-    (asked.0.principal_within.right_within, c.linear-2.ensures.within asked.1)
-
-pub returns-then-not-stands_in-2 : goal.returns-then-not-stands_in-2
-returns-then-not-stands_in-2 c = let tag = c.if-f-ne6.false in
-    record { right = λ x Q P P' x_is q_is p_is p'_is. tensor_no_right x Q P P' (sym x_is.tag_is ∙ tag) (c.stands_in.ensures.right (x_is.left_reads (omega (arith, tag))) (c.linear.ensures.reads p_is)) c.if-not-stands_in.false (c.stands_in-2.ensures.right (x_is.right_reads (omega (arith, tag)) (omega (arith, tag))) (c.linear-2.ensures.reads p'_is)) c.if-not-stands_in-2.true }
+pub stands_in-requires-then-stands_in : goal.stands_in-requires-then-stands_in
+stands_in-requires-then-stands_in c = let asked = c.requires in
+    (asked.0.principal_within.right_within, c.linear-then-stands_in.ensures.within asked.1)
 
 pub same_bag-requires : goal.same_bag-requires
 same_bag-requires c = let asked = c.requires in
-    (asked.0.short, c.three_runs.ensures.within _ asked.0.principal_within.whole_within (c.linear-3.ensures.within asked.0.premise_inside) (c.linear-4.ensures.within asked.1), c.three_runs-2.ensures.within _ asked.0.principal_within.left_within asked.0.principal_within.right_within (c.linear-5.ensures.within asked.0.conclusion_inside))
+    (asked.0.short, c.three_runs.ensures.within _ asked.0.principal_within.whole_within (c.linear-then-stands_in-2.ensures.within asked.0.premise_inside) (c.linear-then-stands_in-2-2.ensures.within asked.1), c.three_runs-then-stands_in-2.ensures.within _ asked.0.principal_within.left_within asked.0.principal_within.right_within (c.linear-then-stands_in-2-3.ensures.within asked.0.conclusion_inside))
 
-pub returns : goal.returns
-returns c = let tag = c.if-f-ne6.false in
-    record { right = λ x Q P P' x_is q_is p_is p'_is. tensor_told x Q P P' (sym x_is.tag_is ∙ tag) (c.stands_in.ensures.right (x_is.left_reads (omega (arith, tag))) (c.linear.ensures.reads p_is)) c.if-not-stands_in.false (c.stands_in-2.ensures.right (x_is.right_reads (omega (arith, tag)) (omega (arith, tag))) (c.linear-2.ensures.reads p'_is)) c.if-not-stands_in-2.false (c.same_bag.ensures.right _ _ (c.three_runs.ensures.reads _ x_is.whole_reads (c.linear-3.ensures.reads p_is) (c.linear-4.ensures.reads p'_is)) (c.three_runs-2.ensures.reads _ (x_is.left_reads (omega (arith, tag))) (x_is.right_reads (omega (arith, tag)) (omega (arith, tag))) (c.linear-5.ensures.reads q_is))) }
+pub returns-then-stands_in-2 : goal.returns-then-stands_in-2
+returns-then-stands_in-2 c = record {
+  right = λ x Q P P' x_is q_is p_is p'_is.
+      elim c.if-stands_in.branch [
+        | then-stands_in w ↦ elim c.if-f-eq6.branch [
+          | then-f-eq6 v ↦ let tag = v.if-f-eq6.true in
+              tensor_told x Q P P' (sym x_is.tag_is ∙ tag) (v.stands_in.ensures.right (x_is.left_reads (omega (arith, tag))) (v.linear.ensures.reads p_is)) (sym v.value-is ∙ w.if-stands_in.true) (w.stands_in-then-stands_in.ensures.right (x_is.right_reads (omega (arith, tag)) (omega (arith, tag))) (w.linear-then-stands_in.ensures.reads p'_is)) (sym w.value-is ∙ c.if-stands_in-2.true) (c.same_bag.ensures.right _ _ (c.three_runs.ensures.reads _ x_is.whole_reads (c.linear-then-stands_in-2.ensures.reads p_is) (c.linear-then-stands_in-2-2.ensures.reads p'_is)) (c.three_runs-then-stands_in-2.ensures.reads _ (x_is.left_reads (omega (arith, tag))) (x_is.right_reads (omega (arith, tag)) (omega (arith, tag))) (c.linear-then-stands_in-2-3.ensures.reads q_is)))
+          | else-f-eq6 v ↦ absurd (v.if-f-eq6.false (eqb-true _ _ (sym v.value-is ∙ w.if-stands_in.true)))
+        ]
+        | else-stands_in w ↦ absurd (false≢true (sym w.if-stands_in.false ∙ sym w.value-is ∙ c.if-stands_in-2.true))
+      ];
+}
+
+pub returns-else-stands_in-2 : goal.returns-else-stands_in-2
+returns-else-stands_in-2 c = record {
+  right = λ x Q P P' x_is q_is p_is p'_is.
+      c.if-stands_in-2.false ∙ elim c.if-stands_in.branch [
+        | then-stands_in w ↦ elim c.if-f-eq6.branch [
+          | then-f-eq6 v ↦ let tag = v.if-f-eq6.true in
+              tensor_no_right x Q P P' (sym x_is.tag_is ∙ tag) (v.stands_in.ensures.right (x_is.left_reads (omega (arith, tag))) (v.linear.ensures.reads p_is)) (sym v.value-is ∙ w.if-stands_in.true) (w.stands_in-then-stands_in.ensures.right (x_is.right_reads (omega (arith, tag)) (omega (arith, tag))) (w.linear-then-stands_in.ensures.reads p'_is)) (sym w.value-is ∙ c.if-stands_in-2.false)
+          | else-f-eq6 v ↦ absurd (v.if-f-eq6.false (eqb-true _ _ (sym v.value-is ∙ w.if-stands_in.true)))
+        ]
+        | else-stands_in w ↦ elim c.if-f-eq6.branch [
+          | then-f-eq6 v ↦ let tag = v.if-f-eq6.true in
+              tensor_no_left x Q P P' (sym x_is.tag_is ∙ tag) (v.stands_in.ensures.right (x_is.left_reads (omega (arith, tag))) (v.linear.ensures.reads p_is)) (sym v.value-is ∙ w.if-stands_in.false)
+          | else-f-eq6 v ↦ tensor_other x Q P P' (λ e. v.if-f-eq6.false (x_is.tag_is ∙ e))
+        ]
+      ];
+}

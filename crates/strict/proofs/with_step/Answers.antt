@@ -1,23 +1,25 @@
+use Rattle.std.proofs.Common.{sym, ◌∙◌, arith}
+use borrow.Author.Tests.{eqb-true}
 use Rattle.strict.specs.StepsLaws.{with_other, with_no, with_told, with_whole}
-use mathlib.Core.Path.{sym, ◌∙◌}
-use native.Mathlib.Omega.{arith}
 use Rattle.strict.proofs.with_step.Goals as goal
+use Rattle.strict.proofs.with_step.Goals.{then-f-eq8, else-f-eq8}
 
-pub returns-then-f-ne8 : goal.returns-then-f-ne8
-returns-then-f-ne8 c = record { right = λ x Q P P' x_is q_is p_is p'_is. with_other x Q P P' (λ e. c.if-f-ne8.true (x_is.tag_is ∙ e)) }
+pub returns-then-is_replaced : goal.returns-then-is_replaced
+returns-then-is_replaced c = record {
+  right = λ x Q P P' x_is q_is p_is p'_is.
+      elim c.if-f-eq8.branch [
+        | then-f-eq8 w ↦ let tag = w.if-f-eq8.true in
+            with_told x Q P P' (sym x_is.tag_is ∙ tag) (w.is_replaced.ensures.right _ _ Q P (with_whole x (sym x_is.tag_is ∙ tag) x_is.whole_reads) (x_is.left_reads (omega (arith, tag))) q_is p_is) (sym w.value-is ∙ c.if-is_replaced.true) (c.is_replaced-then-is_replaced.ensures.right _ _ Q P' (with_whole x (sym x_is.tag_is ∙ tag) x_is.whole_reads) (x_is.right_reads (omega (arith, tag)) (omega (arith, tag))) q_is p'_is)
+        | else-f-eq8 w ↦ absurd (w.if-f-eq8.false (eqb-true _ _ (sym w.value-is ∙ c.if-is_replaced.true)))
+      ];
+}
 
-pub is_replaced-requires : goal.is_replaced-requires
-is_replaced-requires c = let asked = c.requires in
-    (asked.0.short, asked.0.principal_within.whole_within, asked.0.principal_within.left_within, asked.0.conclusion_inside, asked.0.premise_inside)
-
-pub returns-then-not-is_replaced : goal.returns-then-not-is_replaced
-returns-then-not-is_replaced c = let tag = c.if-f-ne8.false in
-    record { right = λ x Q P P' x_is q_is p_is p'_is. with_no x Q P P' (sym x_is.tag_is ∙ tag) (c.is_replaced.ensures.right _ _ Q P (with_whole x (sym x_is.tag_is ∙ tag) x_is.whole_reads) (x_is.left_reads (omega (arith, tag))) q_is p_is) c.if-not-is_replaced.true }
-
-pub is_replaced-requires-2 : goal.is_replaced-requires-2
-is_replaced-requires-2 c = let asked = c.requires in
-    (asked.0.short, asked.0.principal_within.whole_within, asked.0.principal_within.right_within, asked.0.conclusion_inside, asked.1)
-
-pub returns : goal.returns
-returns c = let tag = c.if-f-ne8.false in
-    record { right = λ x Q P P' x_is q_is p_is p'_is. with_told x Q P P' (sym x_is.tag_is ∙ tag) (c.is_replaced.ensures.right _ _ Q P (with_whole x (sym x_is.tag_is ∙ tag) x_is.whole_reads) (x_is.left_reads (omega (arith, tag))) q_is p_is) c.if-not-is_replaced.false (c.is_replaced-2.ensures.right _ _ Q P' (with_whole x (sym x_is.tag_is ∙ tag) x_is.whole_reads) (x_is.right_reads (omega (arith, tag)) (omega (arith, tag))) q_is p'_is) }
+pub returns-else-is_replaced : goal.returns-else-is_replaced
+returns-else-is_replaced c = record {
+  right = λ x Q P P' x_is q_is p_is p'_is.
+      c.if-is_replaced.false ∙ elim c.if-f-eq8.branch [
+        | then-f-eq8 w ↦ let tag = w.if-f-eq8.true in
+            with_no x Q P P' (sym x_is.tag_is ∙ tag) (w.is_replaced.ensures.right _ _ Q P (with_whole x (sym x_is.tag_is ∙ tag) x_is.whole_reads) (x_is.left_reads (omega (arith, tag))) q_is p_is) (sym w.value-is ∙ c.if-is_replaced.false)
+        | else-f-eq8 w ↦ with_other x Q P P' (λ e. w.if-f-eq8.false (x_is.tag_is ∙ e))
+      ];
+}
