@@ -1,21 +1,11 @@
-use native.Mathlib.Omega.{arith}
 use Rattle.verify.specs.ShapesLaws.{seeking_start, seeking_end, seeking_found, seeking_next}
 use Rattle.verify.proofs.has_tag.Goals as goal
 
 pub loop-p-init : goal.loop-p-init
 loop-p-init c = seeking_start c.requires
 
-pub bounds-s-p : goal.bounds-s-p
-bounds-s-p c = omega (arith, c.loop-p-test.true, c.requires.inside)
-
 pub returns-then-s-p : goal.returns-then-s-p
 returns-then-s-p c = seeking_found c.requires c.loop-p.invariant c.loop-p-test.true c.if-s-p.true
-
-pub next_formula-p-requires : goal.next_formula-p-requires
-next_formula-p-requires c = (c.loop-p-test.true, c.requires.inside)
-
-pub loop-p-smaller : goal.loop-p-smaller
-loop-p-smaller c = omega (arith, c.loop-p-test.true, c.next_formula-p.ensures.further)
 
 pub loop-p-preserved : goal.loop-p-preserved
 loop-p-preserved c = seeking_next c.requires c.loop-p.invariant c.loop-p-test.true c.if-s-p.false c.next_formula-p.ensures
