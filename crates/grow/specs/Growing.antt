@@ -1,6 +1,7 @@
 -- What expanding a short tree in bytes asks and answers. Any bytes may stand in the message; a contract speaks of the short tree that stands at the place. Assumes nothing: these are
 -- definitions.
-use Rattle.std.specs.Prelude.{◌≡◌, true, false, List, ℕ, ◌+◌, ◌≤◌, ◌<◌, min, eqb, get_or, length}
+use Rattle.std.specs.Prelude as std
+use Rattle.std.specs.Prelude.{◌≡◌, Ok, Err, true, false, List, ℕ, ◌+◌, ◌≤◌, ◌<◌, min, eqb, get_or, length}
 use Rattle.std.proofs.lemmas.List.Edits.{sets}
 use Rattle.logic.specs.Formula.{Formula}
 use Rattle.logic.specs.Answer.{Refusal, wrong_number, wrong_length, wrong_tag, too_high, too_many, held_full, budget_spent, failures_full, output_short, wrong_setting, wrong_memory}
@@ -22,7 +23,8 @@ use Rattle.short_read.specs.Reading.{node_bytes, four}
 use Rattle.step.specs.Taking.{sequent}
 use Rattle.grow.specs.declared.Node.{Node}
 use Rattle.grow.specs.declared.Grown.{Grown}
-use Rattle.grow.specs.declared.Grown.TheVariants.{Whole, Full, Mismatch, TooMany}
+use Rattle.grow.specs.declared.Stop.{Stop}
+use Rattle.grow.specs.declared.Stop.TheVariants.{Full, Mismatch, TooMany}
 
 -- the limits in force: document 01's. No visit is counted here
 abbrev pub limits : Limits
@@ -73,17 +75,23 @@ pub record Growing (m s : List ℕ) (at : ℕ) (z : Zones) (to : ℕ) : Type 0 w
   pub from : 3 ≤ to
   pub low : to ≤ too_long
 
+-- what the code answers
+abbrev pub Grow : Type 0
+Grow = std.Result Grown Stop
+
+-- a part of the tree, with the places after it
+abbrev pub Whole : (next to : ℕ) → Grow
+Whole next to = Ok record { next = next; to = to }
+
 -- the places after what was expanded
-abbrev pub Within : (len at : ℕ) → Grown → Type 0
-Within len at (Whole next to) = ((at ≤ next) × (next ≤ len)) × ((3 ≤ to) × (to ≤ too_long))
-Within len at Full = Unit {0}
-Within len at Mismatch = Unit {0}
-Within len at TooMany = Unit {0}
+abbrev pub Within : (len at : ℕ) → Grow → Type 0
+Within len at (Ok g) = ((at ≤ g.next) × (g.next ≤ len)) × ((3 ≤ g.to) × (g.to ≤ too_long))
+Within len at (Err k) = Unit {0}
 
 -- the refusals of `expand`, as the code answers them
-abbrev pub Refuses : Refusal → Grown → Type 0
-Refuses held_full r = r ≡ Full
-Refuses too_many r = r ≡ TooMany
+abbrev pub Refuses : Refusal → Grow → Type 0
+Refuses held_full r = r ≡ Err Full
+Refuses too_many r = r ≡ Err TooMany
 Refuses wrong_number r = ⊥
 Refuses wrong_length r = ⊥
 Refuses wrong_tag r = ⊥
@@ -95,20 +103,20 @@ Refuses wrong_setting r = ⊥
 Refuses wrong_memory r = ⊥
 
 -- the code's answer to a result of `expand`, and the output after it; `next` is the place after the short tree
-pub record WholeAs (t : Tree) (next : ℕ) (out : List ℕ) (to : ℕ) (r : Grown) (out' : List ℕ) : Type 0 where
+pub record WholeAs (t : Tree) (next : ℕ) (out : List ℕ) (to : ℕ) (r : Grow) (out' : List ℕ) : Type 0 where
   pub answer : r ≡ Whole next (on to (length (write_node t)))
   pub put : Put (write_node t) out to out'
 
-abbrev pub Told : Result Tree → (next : ℕ) → List ℕ → ℕ → Grown → List ℕ → Type 0
+abbrev pub Told : Result Tree → (next : ℕ) → List ℕ → ℕ → Grow → List ℕ → Type 0
 Told (made t) next out to r out' = WholeAs t next out to r out'
-Told mismatch next out to r out' = r ≡ Mismatch
+Told mismatch next out to r out' = r ≡ Err Mismatch
 Told (refused k) next out to r out' = Refuses k r
 
-pub record GrownAs (x : Result Tree × List Formula) (next : ℕ) (out : List ℕ) (to : ℕ) (r : Grown) (fs : List Formula) (out' : List ℕ) : Type 0 where
+pub record GrownAs (x : Result Tree × List Formula) (next : ℕ) (out : List ℕ) (to : ℕ) (r : Grow) (fs : List Formula) (out' : List ℕ) : Type 0 where
   pub told : Told x.0 next out to r out'
   pub held : fs ≡ x.1
 
-pub record Grows (m s : List ℕ) (at : ℕ) (z : Zones) (out : List ℕ) (to : ℕ) (r : Grown) (m' out' : List ℕ) : Type 0 where
+pub record Grows (m s : List ℕ) (at : ℕ) (z : Zones) (out : List ℕ) (to : ℕ) (r : Grow) (m' out' : List ℕ) : Type 0 where
   pub within : Within (length s) at r
   pub wf : Wf m'
   pub grew : Extends m m'

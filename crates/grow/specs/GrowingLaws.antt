@@ -1,6 +1,6 @@
 -- Laws of expanding in bytes: runs of bytes one after another, a node's bytes before its premises', what stands at a place, and each way out of the walk.
 -- Assumes nothing.
-use Rattle.std.specs.Prelude.{◌≡◌, refl, Bool, true, false, not, ℕ, ◌+◌, ◌-◌, ◌≤◌, ◌<◌, min, eqb, get_or}
+use Rattle.std.specs.Prelude.{◌≡◌, Option, None, Some, Ok, Err, refl, Bool, true, false, not, ℕ, ◌+◌, ◌-◌, ◌≤◌, ◌<◌, min, eqb, get_or}
 use Rattle.std.proofs.Math.Path.{sym, ap}
 use Rattle.std.proofs.Common.{ap₂, subst, ◌∙◌, ⊎_elim, arith, eqb-true, eq-eqb, ne_eqb, length-append}
 use mathlib.Core.List.{List, [], ◌∷◌, ◌++◌, append_assoc, append-nil}
@@ -60,7 +60,6 @@ use Rattle.short_bytes.specs.Fits.{HasShort, ShortNodesFit}
 use Rattle.short_read.specs.Reading.{node_bytes, four}
 use Rattle.short_read.specs.Places.{NodeThere, TwoThere}
 use Rattle.short_read.specs.ReadingLaws.{short_node_there, shorts_none, shorts_one, shorts_two}
-use Rattle.step.specs.declared.Spelt.{Spelt}
 use Rattle.step.specs.Taking.{sequent, SpeltTo, Asked, Crowded, Taken}
 use Rattle.step.specs.TakingLaws.{
   taken_named,
@@ -81,9 +80,9 @@ use Rattle.step.specs.TakingLaws.{
   taken_grows,
 }
 use Rattle.grow.specs.declared.Node.{Node}
-use Rattle.grow.specs.declared.Grown.{Grown}
-use Rattle.grow.specs.declared.Grown.TheVariants.{Whole, Full, Mismatch, TooMany}
-use Rattle.grow.specs.Growing.{limits, MaskAt, NodeAt, too_long, Putting, on, Put, PutHead, Growing, Within, Refuses, WholeAs, Told, GrownAs, Grows}
+use Rattle.grow.specs.declared.Stop.{Stop}
+use Rattle.grow.specs.declared.Stop.TheVariants.{Full, Mismatch, TooMany}
+use Rattle.grow.specs.Growing.{limits, MaskAt, NodeAt, too_long, Putting, on, Put, PutHead, Growing, Grow, Whole, Within, Refuses, WholeAs, Told, GrownAs, Grows}
 use Rattle.grow.specs.Stages.{as_node, as_one, as_two, Entered, GrownHere, StandsAs, Made}
 use Rattle.grow.specs.StagesLaws.{expand_full, expand_mismatch, expand_crowded, expand_entered, expand_none, expand_one, expand_first, expand_two}
 
@@ -222,14 +221,21 @@ module _ {s : List ℕ} {at : ℕ} {n : Node} (node_is : NodeAt s at n) where
       }
 
 -- the places after it, seen from an earlier one
-within_from : (len at below : ℕ) (a : Grown) → at ≤ below → Within len below a → Within len at a
-within_from len at below (Whole next to) h x = ((omega (arith, x.0.0), x.0.1), x.1)
-within_from len at below Full h x = tt
-within_from len at below Mismatch h x = tt
-within_from len at below TooMany h x = tt
+within_from : (len at below : ℕ) (a : Grow) → at ≤ below → Within len below a → Within len at a
+within_from len at below (Ok g) h x = ((omega (arith, x.0.0), x.0.1), x.1)
+within_from len at below (Err k) h x = tt
+
+-- the places of an answer
+abbrev next_of : Grow → ℕ
+next_of (Ok g) = g.next
+next_of (Err k) = 0
+
+abbrev to_of : Grow → ℕ
+to_of (Ok g) = g.to
+to_of (Err k) = 0
 
 -- no refusal is a whole tree
-refuses_whole : (k : Refusal) {a : Grown} {next to : ℕ} → a ≡ Whole next to → Refuses k a → ⊥
+refuses_whole : (k : Refusal) {a : Grow} {next to : ℕ} → a ≡ Whole next to → Refuses k a → ⊥
 refuses_whole held_full e x = let z : ◌≡◌ {A = ℕ} 0 1 = cc in omega arith
 refuses_whole too_many e x = let z : ◌≡◌ {A = ℕ} 0 1 = cc in omega arith
 refuses_whole wrong_number e x = x
@@ -243,14 +249,14 @@ refuses_whole wrong_setting e x = x
 refuses_whole wrong_memory e x = x
 
 -- a node whose premise is told; and one whose first premise is none
-told_one : (f : Trees → Tree) (x : Result Tree) {next next' : ℕ} {out : List ℕ} {to : ℕ} {out₁ : List ℕ} {to₁ : ℕ} {a : Grown} {out' : List ℕ}
+told_one : (f : Trees → Tree) (x : Result Tree) {next next' : ℕ} {out : List ℕ} {to : ℕ} {out₁ : List ℕ} {to₁ : ℕ} {a : Grow} {out' : List ℕ}
     → Told x next out₁ to₁ a out' → ((t : Tree) → WholeAs t next out₁ to₁ a out' → WholeAs (f (t ▹ ∅)) next' out to a out')
     → Told (as_node f (as_one x)) next' out to a out'
 told_one f (made t) h k = k t h
 told_one f mismatch h k = h
 told_one f (refused r) h k = h
 
-told_two : (f : Trees → Tree) (u : Tree) (x : Result Tree) {next next' : ℕ} {out : List ℕ} {to : ℕ} {out₁ : List ℕ} {to₁ : ℕ} {a : Grown} {out' : List ℕ}
+told_two : (f : Trees → Tree) (u : Tree) (x : Result Tree) {next next' : ℕ} {out : List ℕ} {to : ℕ} {out₁ : List ℕ} {to₁ : ℕ} {a : Grow} {out' : List ℕ}
     → Told x next out₁ to₁ a out' → ((t : Tree) → WholeAs t next out₁ to₁ a out' → WholeAs (f (u ▹ t ▹ ∅)) next' out to a out')
     → Told (as_node f (as_two u x)) next' out to a out'
 told_two f u (made t) h k = k t h
@@ -258,7 +264,7 @@ told_two f u mismatch h k = h
 told_two f u (refused r) h k = h
 
 -- what is no whole tree was not made; what is one was
-module _ (y : Result Tree × List Formula) {next : ℕ} {out : List ℕ} {to : ℕ} {a : Grown} {fs : List Formula} {out' : List ℕ} where
+module _ (y : Result Tree × List Formula) {next : ℕ} {out : List ℕ} {to : ℕ} {a : Grow} {fs : List Formula} {out' : List ℕ} where
   not_made : ((n k : ℕ) → a ≡ Whole n k → ⊥) → GrownAs y next out to a fs out' → (t : Tree) → y.0 ≡ made t → ⊥
   not_made h x = go y.0 x.told
     where
@@ -285,15 +291,15 @@ not_false true e = refl
 not_false false e = sym e
 
 -- a result, told of an expansion that comes to it
-grown_as : {y : Result Tree × List Formula} {x : Result Tree} {fs : List Formula} {next : ℕ} {out : List ℕ} {to : ℕ} {r : Grown} {out' : List ℕ} → y ≡ (x, fs)
+grown_as : {y : Result Tree × List Formula} {x : Result Tree} {fs : List Formula} {next : ℕ} {out : List ℕ} {to : ℕ} {r : Grow} {out' : List ℕ} → y ≡ (x, fs)
     → Told x next out to r out' → GrownAs y next out to r fs out'
 grown_as {y} {x} {fs} {next} {out} {to} {r} {out'} e t = record {
   told = subst (λ (u : Result Tree × List Formula). Told u.0 next out to r out') (sym e) t;
   held = sym (ap (λ (u : Result Tree × List Formula). u.1) e);
 }
 
-module _ {m s : List ℕ} {at : ℕ} {z : Zones} {to : ℕ} (g : Growing m s at z to) {e : Spelt} {m₁ : List ℕ} (sp : SpeltTo m z e m₁) where
-  pub grows_full : (out : List ℕ) → e.full ≡ true → Grows m s at z out to Full m₁ out
+module _ {m s : List ℕ} {at : ℕ} {z : Zones} {to : ℕ} (g : Growing m s at z to) {e : Option Zones} {m₁ : List ℕ} (sp : SpeltTo m z e m₁) where
+  pub grows_full : (out : List ℕ) → e ≡ None → Grows m s at z out to (Err Full) m₁ out
   grows_full out h = record {
     within = tt;
     wf = sp.wf;
@@ -305,17 +311,20 @@ module _ {m s : List ℕ} {at : ℕ} {z : Zones} {to : ℕ} (g : Growing m s at 
       full : spelt (at_most 2048) (sequent m z) (view m) ≡ (refused held_full, view m₁)
       full = sp.made_is ∙ rw h
 
-      go : (t : Short) → GrownHere m at z t out to Full m₁ out
+      go : (t : Short) → GrownHere m at z t out to (Err Full) m₁ out
       go (short r i k ss) = grown_as (expand_full r i k ss (sequent m z) (view m) full) refl
 
-  module _ (whole : e.full ≡ false) {n : Node} (node_is : NodeAt s at n) where
+  module _ {z₁ : Zones} (whole : e ≡ Some z₁) {n : Node} (node_is : NodeAt s at n) where
     spells : spelt (at_most 2048) (sequent m z) (view m) ≡ (made tt, view m₁)
     spells = sp.made_is ∙ rw whole
 
-    means : sequent m₁ e.zones ≡ concluded (sequent m z)
-    means = (sp.means whole).means
+    pub meant : Means m₁ (concluded (sequent m z)) z₁
+    meant = rw whole at sp.means
 
-    pub grows_mismatch : (out : List ℕ) {b : Bool} → Asked m₁ e.zones n.rule n.place n.mask b → not b ≡ true → Grows m s at z out to Mismatch m₁ out
+    means : sequent m₁ z₁ ≡ concluded (sequent m z)
+    means = meant.means
+
+    pub grows_mismatch : (out : List ℕ) {b : Bool} → Asked m₁ z₁ n.rule n.place n.mask b → not b ≡ true → Grows m s at z out to (Err Mismatch) m₁ out
     grows_mismatch out {b} asked h = record {
       within = tt;
       wf = sp.wf;
@@ -324,7 +333,7 @@ module _ {m s : List ℕ} {at : ℕ} {z : Zones} {to : ℕ} (g : Growing m s at 
       is = λ t stands fits. go t (node_stands node_is t stands fits);
     }
       where
-        go : (t : Short) → StandsAs s at n t → GrownHere m at z t out to Mismatch m₁ out
+        go : (t : Short) → StandsAs s at n t → GrownHere m at z t out to (Err Mismatch) m₁ out
         go t x =
             let takes : may_take x.named n.place n.mask (concluded (sequent m z)) ≡ false =
             rw means at (sym (asked.is x.named x.number) ∙ not_true b h) in
@@ -333,14 +342,14 @@ module _ {m s : List ℕ} {at : ℕ} {z : Zones} {to : ℕ} (g : Growing m s at 
             ∙ expand_mismatch x.named n.place n.mask x.shorts (sequent m z) (view m) spells takes)
             refl
 
-    module _ {b : Bool} (asked : Asked m₁ e.zones n.rule n.place n.mask b) (taken_test : not b ≡ false) where
+    module _ {b : Bool} (asked : Asked m₁ z₁ n.rule n.place n.mask b) (taken_test : not b ≡ false) where
       may : b ≡ true
       may = not_false b taken_test
 
-      takes_as : {t : Short} (x : StandsAs s at n t) → may_take x.named n.place n.mask (sequent m₁ e.zones) ≡ true
+      takes_as : {t : Short} (x : StandsAs s at n t) → may_take x.named n.place n.mask (sequent m₁ z₁) ≡ true
       takes_as x = sym (asked.is x.named x.number) ∙ may
 
-      pub grows_crowded : (out : List ℕ) {d : Bool} → Crowded e.zones n.rule d → d ≡ true → Grows m s at z out to TooMany m₁ out
+      pub grows_crowded : (out : List ℕ) {d : Bool} → Crowded z₁ n.rule d → d ≡ true → Grows m s at z out to (Err TooMany) m₁ out
       grows_crowded out {d} crowded h = record {
         within = tt;
         wf = sp.wf;
@@ -349,18 +358,18 @@ module _ {m s : List ℕ} {at : ℕ} {z : Zones} {to : ℕ} (g : Growing m s at 
         is = λ t stands fits. go t (node_stands node_is t stands fits);
       }
         where
-          go : (t : Short) → StandsAs s at n t → GrownHere m at z t out to TooMany m₁ out
+          go : (t : Short) → StandsAs s at n t → GrownHere m at z t out to (Err TooMany) m₁ out
           go t x =
-              let many_are : few_each (at_most 31) (premises_of x.named n.place n.mask (sequent m₁ e.zones)) (view m₁) ≡ (refused too_many, view m₁) =
+              let many_are : few_each (at_most 31) (premises_of x.named n.place n.mask (sequent m₁ z₁)) (view m₁) ≡ (refused too_many, view m₁) =
               crowded.is (told m₁) x.named n.place n.mask (view m₁) x.number (takes_as x) ∙ rw h in
               grown_as
               (ap (λ (u : Short). expand limits u (sequent m z) (view m)) x.is
               ∙ expand_crowded x.named n.place n.mask x.shorts (sequent m z) (view m) spells (rw means at (takes_as x)) (rw means at many_are))
               refl
 
-      module _ {d : Bool} (crowded : Crowded e.zones n.rule d) (few : d ≡ false) {w : ℕ} (word_is : w ≡ word n.rule n.place n.mask) where
-        pub taken : Taken m₁ e.zones n.rule n.place n.mask
-        taken = asked_taken (sp.means whole).sound (rw may at asked) (rw few at crowded)
+      module _ {d : Bool} (crowded : Crowded z₁ n.rule d) (few : d ≡ false) {w : ℕ} (word_is : w ≡ word n.rule n.place n.mask) where
+        pub taken : Taken m₁ z₁ n.rule n.place n.mask
+        taken = asked_taken meant.sound (rw may at asked) (rw few at crowded)
 
         rule_is : rule_of w ≡ n.rule
         rule_is = rw word_is (taken_rule_of taken)
@@ -368,29 +377,29 @@ module _ {m s : List ℕ} {at : ℕ} {z : Zones} {to : ℕ} (g : Growing m s at 
         pub word_known : rule_of w < 15
         word_known = rw word_is (taken_rule_of_low taken)
 
-        pub putting : Putting m₁ e.zones w to
-        putting = record { sound = (sp.means whole).sound; known = word_known; from = g.from; low = g.low }
+        pub putting : Putting m₁ z₁ w to
+        putting = record { sound = meant.sound; known = word_known; from = g.from; low = g.low }
 
         entered : {t : Short} (x : StandsAs s at n t) → Entered x.named n.place n.mask (sequent m z) (view m) (view m₁)
         entered x =
-            let fits : few_each (at_most 31) (premises_of x.named n.place n.mask (sequent m₁ e.zones)) (view m₁) ≡ (made tt, view m₁) =
+            let fits : few_each (at_most 31) (premises_of x.named n.place n.mask (sequent m₁ z₁)) (view m₁) ≡ (made tt, view m₁) =
             crowded.is (told m₁) x.named n.place n.mask (view m₁) x.number (takes_as x) ∙ rw few in
             record { spells = spells; takes = rw means at (takes_as x); few = rw means at fits }
 
         -- the node expanded, with what became of its premises
         expanded : {t : Short} (x : StandsAs s at n t) {ss : Shorts} {ps : List Sequent} {y : Result Trees} {fs : List Formula} → x.shorts ≡ ss
-            → premises_of taken.named n.place n.mask (sequent m₁ e.zones) ≡ ps → expand_all limits ss ps (view m₁) ≡ (y, fs)
+            → premises_of taken.named n.place n.mask (sequent m₁ z₁) ≡ ps → expand_all limits ss ps (view m₁) ≡ (y, fs)
             → expand limits t (sequent m z) (view m) ≡ (as_node (node x.named (concluded (sequent m z))) y, fs)
         expanded x ss_are ps_are h =
             let premises_are =
             ap (premises_of x.named n.place n.mask) (sym means)
-            ∙ ap (λ (r : Rule). premises_of r n.place n.mask (sequent m₁ e.zones)) (sym (taken_named taken x.named x.number))
+            ∙ ap (λ (r : Rule). premises_of r n.place n.mask (sequent m₁ z₁)) (sym (taken_named taken x.named x.number))
             ∙ ps_are in
             ap (λ (u : Short). expand limits u (sequent m z) (view m)) x.is
             ∙ expand_entered x.named n.place n.mask x.shorts (sequent m z) (view m) (entered x)
             (ap₂ (λ (ss : Shorts) (ps : List Sequent). expand_all limits ss ps (view m₁)) ss_are premises_are ∙ h)
 
-        module _ {out out₁ : List ℕ} {written : ℕ} (put : PutHead m₁ e.zones w out to out₁ written) {c : ℕ}
+        module _ {out out₁ : List ℕ} {written : ℕ} (put : PutHead m₁ z₁ w out to out₁ written) {c : ℕ}
             (count_is : c ≡ get_or premise_counts (rule_of w) 0) where
           many_are : {t : Short} (x : StandsAs s at n t) → many x.shorts ≡ c
           many_are x =
@@ -414,16 +423,16 @@ module _ {m s : List ℕ} {at : ℕ} {z : Zones} {to : ℕ} (g : Growing m s at 
 
           -- a node's bytes and its premises'
           node_bytes_are : {t : Short} (x : StandsAs s at n t) (ts : Trees) → c ≡ premise_count ts
-              → write_node (node x.named (concluded (sequent m z)) ts) ≡ head w (sequent m₁ e.zones) ++ write_nodes ts
+              → write_node (node x.named (concluded (sequent m z)) ts) ≡ head w (sequent m₁ z₁) ++ write_nodes ts
           node_bytes_are x ts h =
               head_node x.named (concluded (sequent m z)) ts w x.fits.rule_short (rule_is ∙ x.number) (sym count_is ∙ h)
               ∙ ap (λ (q : Sequent). head w q ++ write_nodes ts) (sym means)
 
-          whole_join : {a : Grown} {out' : List ℕ} {next : ℕ} {t : Tree} (bs : List ℕ) → write_node t ≡ head w (sequent m₁ e.zones) ++ bs
+          whole_join : {a : Grow} {out' : List ℕ} {next : ℕ} {t : Tree} (bs : List ℕ) → write_node t ≡ head w (sequent m₁ z₁) ++ bs
               → a ≡ Whole next (on written (length bs)) → Put bs out₁ written out' → WholeAs t next out to a out'
           whole_join {next = next} {t = t} bs bytes answer more =
               let long : on written (length bs) ≡ on to (length (write_node t)) =
-              omega (arith, put.next, ap length bytes, length-append (head w (sequent m₁ e.zones)) bs) in
+              omega (arith, put.next, ap length bytes, length-append (head w (sequent m₁ z₁)) bs) in
               record { answer = answer ∙ ap (Whole next) long; put = rw bytes (put_join put.put (rw put.next at more)) }
 
           pub grows_leaf : c ≡ 0 → Grows m s at z out to (Whole n.next written) m₁ out₁
@@ -448,10 +457,10 @@ module _ {m s : List ℕ} {at : ℕ} {z : Zones} {to : ℕ} (g : Growing m s at 
                   (whole_join [] (node_bytes_are x ∅ h) (ap₂ Whole ends stays) (put_none out₁ written))
 
           module _ (some_premise : c ≡ 0 → ⊥) where
-            pub first_step : Stepping m₁ e.zones w
+            pub first_step : Stepping m₁ z₁ w
             first_step = rw word_is (go (premised taken))
               where
-                go : Premised m₁ e.zones n.rule n.place n.mask taken.named → Stepping m₁ e.zones (word n.rule n.place n.mask)
+                go : Premised m₁ z₁ n.rule n.place n.mask taken.named → Stepping m₁ z₁ (word n.rule n.place n.mask)
                 go (no_premise k) = absurd (some_premise (sym (counted refl) ∙ k.counted))
                 go (one_premise k) = k.stepping
                 go (two_premises k) = k.stepping
@@ -467,7 +476,7 @@ module _ {m s : List ℕ} {at : ℕ} {z : Zones} {to : ℕ} (g : Growing m s at 
                 starts : at < length s
                 starts = ⊎_elim (λ h. absurd (some_premise (leaf h))) (λ h. h) (le_or_lt (length s) at)
 
-            module _ {p : Zones} (first_is : Means m₁ (first_of (step (sequent m₁ e.zones) w)) p) where
+            module _ {p : Zones} (first_is : Means m₁ (first_of (step (sequent m₁ z₁) w)) p) where
               pub first_growing : Growing m₁ s n.next p written
               first_growing = record {
                 sound = first_is.sound;
@@ -477,12 +486,12 @@ module _ {m s : List ℕ} {at : ℕ} {z : Zones} {to : ℕ} (g : Growing m s at 
                 low = written_inside.1;
               }
 
-              module _ {a : Grown} {m₂ out₂ : List ℕ} (first : Grows m₁ s n.next p out₁ written a m₂ out₂) where
+              module _ {a : Grow} {m₂ out₂ : List ℕ} (first : Grows m₁ s n.next p out₁ written a m₂ out₂) where
                 first_told : {t : Short} (x : StandsAs s at n t) (u : Short) (q : Sequent) → Stands s (at + node_bytes n.rule) (write_short_node u)
-                    → ShortNodesFit u → first_of (step (sequent m₁ e.zones) (word n.rule n.place n.mask)) ≡ q
+                    → ShortNodesFit u → first_of (step (sequent m₁ z₁) (word n.rule n.place n.mask)) ≡ q
                     → GrownAs (expand limits u q (view m₁)) (at + node_bytes n.rule + length (write_short_node u)) out₁ written a (view m₂) out₂
                 first_told x u q stands fits h =
-                    let is : sequent m₁ p ≡ q = first_is.means ∙ ap (λ (k : ℕ). first_of (step (sequent m₁ e.zones) k)) word_is ∙ h in
+                    let is : sequent m₁ p ≡ q = first_is.means ∙ ap (λ (k : ℕ). first_of (step (sequent m₁ z₁) k)) word_is ∙ h in
                     let here = behind_is x in
                     rw (is, here) at (first.is u (rw here stands) fits)
 
@@ -509,7 +518,7 @@ module _ {m s : List ℕ} {at : ℕ} {z : Zones} {to : ℕ} (g : Growing m s at 
                         (expanded x u.is one.premises_are (expand_one u.first one.first (view m₁) first_is))
                         (told_one (node x.named (concluded (sequent m z))) y.0 deeper.told
                         (λ t₁ k. whole_join (write_node t₁)
-                        (node_bytes_are x (t₁ ▹ ∅) h ∙ ap (λ (bs : List ℕ). head w (sequent m₁ e.zones) ++ bs) (append-nil (write_node t₁)))
+                        (node_bytes_are x (t₁ ▹ ∅) h ∙ ap (λ (bs : List ℕ). head w (sequent m₁ z₁) ++ bs) (append-nil (write_node t₁)))
                         (k.answer ∙ ap (λ (j : ℕ). Whole j (on written (length (write_node t₁)))) ends)
                         k.put))
 
@@ -517,13 +526,13 @@ module _ {m s : List ℕ} {at : ℕ} {z : Zones} {to : ℕ} (g : Growing m s at 
                   two_are : c ≡ 2
                   two_are = go (premised taken)
                     where
-                      go : Premised m₁ e.zones n.rule n.place n.mask taken.named → c ≡ 2
+                      go : Premised m₁ z₁ n.rule n.place n.mask taken.named → c ≡ 2
                       go (no_premise k) = absurd (some_premise (sym (counted refl) ∙ k.counted))
                       go (one_premise k) = absurd (more (sym (counted refl) ∙ k.counted))
                       go (two_premises k) = sym (counted refl) ∙ k.counted
 
-                  pub grows_first : ((j k : ℕ) → a ≡ Whole j k → ⊥) → Grows m s at z out to a m₂ out₂
-                  grows_first stops = record {
+                  pub grows_first : {k : Stop} → a ≡ Err k → Grows m s at z out to a m₂ out₂
+                  grows_first stopped = record {
                     within = within_from (length s) at n.next a below_inside.0 first.within;
                     wf = first.wf;
                     grew = extends_trans sp.grew first.grew;
@@ -531,6 +540,9 @@ module _ {m s : List ℕ} {at : ℕ} {z : Zones} {to : ℕ} (g : Growing m s at 
                     is = λ t stands fits. go t (node_stands node_is t stands fits);
                   }
                     where
+                      stops : (i j : ℕ) → a ≡ Whole i j → ⊥
+                      stops i j whole = let o : ◌≡◌ {A = ℕ} 0 1 = cc in omega arith
+
                       go : (t : Short) → StandsAs s at n t → GrownHere m at z t out to a m₂ out₂
                       go t x =
                           let two = premised_two taken (counted two_are) in
@@ -547,10 +559,10 @@ module _ {m s : List ℕ} {at : ℕ} {z : Zones} {to : ℕ} (g : Growing m s at 
                     next_inside : ((n.next ≤ next) × (next ≤ length s)) × ((3 ≤ second) × (second ≤ too_long))
                     next_inside = rw goes_on at first.within
 
-                    pub second_step : Stepping₂ m₂ e.zones w
+                    pub second_step : Stepping₂ m₂ z₁ w
                     second_step = rw word_is (premised_two (taken_grows first.grew first.wf taken) (counted two_are)).stepping₂
 
-                    module _ {q : Zones} (second_is : Means m₂ (second_of (step (sequent m₂ e.zones) w)) q) where
+                    module _ {q : Zones} (second_is : Means m₂ (second_of (step (sequent m₂ z₁) w)) q) where
                       pub second_falls : length s - next < length s - at
                       second_falls = omega (arith, first_falls, next_inside.0)
 
@@ -563,7 +575,7 @@ module _ {m s : List ℕ} {at : ℕ} {z : Zones} {to : ℕ} (g : Growing m s at 
                         low = next_inside.1.1;
                       }
 
-                      pub grows_two : {a₃ : Grown} {m₃ out₃ : List ℕ} → Grows m₂ s next q out₂ second a₃ m₃ out₃ → Grows m s at z out to a₃ m₃ out₃
+                      pub grows_two : {a₃ : Grow} {m₃ out₃ : List ℕ} → Grows m₂ s next q out₂ second a₃ m₃ out₃ → Grows m s at z out to a₃ m₃ out₃
                       unfolding write_nodes premise_count
                       grows_two {a₃} {m₃} {out₃} last = record {
                         within = within_from (length s) at next a₃ (omega (arith, below_inside, next_inside.0)) last.within;
@@ -576,9 +588,9 @@ module _ {m s : List ℕ} {at : ℕ} {z : Zones} {to : ℕ} (g : Growing m s at 
                           here : {t : Short} (x : StandsAs s at n t) (u : Short) (y : Result Tree × List Formula)
                               (k : Made y (at + node_bytes n.rule + length (write_short_node u)) out₁ written a (view m₂) out₂)
                               → (next ≡ at + node_bytes n.rule + length (write_short_node u)) × (second ≡ on written (length (write_node k.tree)))
-                          here x u y k = let same = sym goes_on ∙ k.whole.answer in (cc, cc)
+                          here x u y k = let same = sym goes_on ∙ k.whole.answer in (ap next_of same, ap to_of same)
 
-                          both : {t : Short} (x : StandsAs s at n t) (two : TwoPremises m₁ e.zones n.rule n.place n.mask taken.named)
+                          both : {t : Short} (x : StandsAs s at n t) (two : TwoPremises m₁ z₁ n.rule n.place n.mask taken.named)
                               (u : TwoThere s (at + node_bytes n.rule) x.shorts)
                               → Made (expand limits u.first two.first (view m₁)) (at + node_bytes n.rule + length (write_short_node u.first)) out₁ written a
                               (view m₂) out₂
@@ -587,7 +599,7 @@ module _ {m s : List ℕ} {at : ℕ} {z : Zones} {to : ℕ} (g : Growing m s at 
                               let places = here x u.first _ k in
                               let premise : sequent m₂ q ≡ two.second =
                               second_is.means
-                              ∙ ap (λ (j : ℕ). second_of (step (sequent m₂ e.zones) j)) word_is
+                              ∙ ap (λ (j : ℕ). second_of (step (sequent m₂ z₁) j)) word_is
                               ∙ ap (λ (o : Sequent). second_of (step o (word n.rule n.place n.mask))) (sequent_same first.grew taken.sound)
                               ∙ two.second_is in
                               let y = expand limits u.second two.second (view m₂) in
@@ -601,7 +613,7 @@ module _ {m s : List ℕ} {at : ℕ} {z : Zones} {to : ℕ} (g : Growing m s at 
                               (told_two (node x.named (concluded (sequent m z))) k.tree y.0 deeper.told
                               (λ t₂ j. whole_join (write_node k.tree ++ write_node t₂)
                               (node_bytes_are x (k.tree ▹ t₂ ▹ ∅) two_are
-                              ∙ ap (λ (bs : List ℕ). head w (sequent m₁ e.zones) ++ (write_node k.tree ++ bs)) (append-nil (write_node t₂)))
+                              ∙ ap (λ (bs : List ℕ). head w (sequent m₁ z₁) ++ (write_node k.tree ++ bs)) (append-nil (write_node t₂)))
                               (j.answer ∙ ap₂ Whole ends (omega (arith, places.1, length-append (write_node k.tree) (write_node t₂))))
                               (put_join k.whole.put (rw places.1 at j.put))))
 

@@ -19,8 +19,7 @@ use Rattle.short_bytes.specs.Fits.{ShortNodeFits, ShortNodesFit*}
 use Rattle.short_read.specs.Reading.{node_bytes}
 use Rattle.step.specs.Taking.{sequent}
 use Rattle.grow.specs.declared.Node.{Node}
-use Rattle.grow.specs.declared.Grown.{Grown}
-use Rattle.grow.specs.Growing.{limits, WholeAs, GrownAs}
+use Rattle.grow.specs.Growing.{limits, Grow, WholeAs, GrownAs}
 
 -- what became of a node's premises, as an answer for the node
 abbrev pub as_node : (Trees → Tree) → Result Trees → Result Tree
@@ -46,7 +45,7 @@ pub record Entered (r : Rule) (i mask : ℕ) (q : Sequent) (fs fs₁ : List Form
   pub few : few_each (at_most 31) (premises_of r i mask (concluded q)) fs₁ ≡ (made tt, fs₁)
 
 -- an answer told of the short tree at the place
-abbrev pub GrownHere : (m : List ℕ) (at : ℕ) (z : Zones) → Short → (out : List ℕ) (to : ℕ) → Grown → (m' out' : List ℕ) → Type 0
+abbrev pub GrownHere : (m : List ℕ) (at : ℕ) (z : Zones) → Short → (out : List ℕ) (to : ℕ) → Grow → (m' out' : List ℕ) → Type 0
 GrownHere m at z t out to r m' out' = GrownAs (expand limits t (sequent m z) (view m)) (at + length (write_short_node t)) out to r (view m') out'
 
 -- the short tree there: its rule, place and mask are those that the bytes say, and its premises stand behind them
@@ -61,7 +60,7 @@ pub record StandsAs (s : List ℕ) (at : ℕ) (n : Node) (t : Short) : Type 0 wh
   pub long : length (write_short_node t) ≡ node_bytes n.rule + length (write_short_nodes shorts)
 
 -- an expansion that made a tree
-pub record Made (y : Result Tree × List Formula) (next : ℕ) (out : List ℕ) (to : ℕ) (a : Grown) (fs : List Formula) (out' : List ℕ) : Type 0 where
+pub record Made (y : Result Tree × List Formula) (next : ℕ) (out : List ℕ) (to : ℕ) (a : Grow) (fs : List Formula) (out' : List ℕ) : Type 0 where
   pub tree : Tree
   pub is : y ≡ (made tree, fs)
   pub whole : WholeAs tree next out to a out'

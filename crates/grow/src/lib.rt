@@ -17,10 +17,16 @@ pub const LONGEST: usize = 65538;
 
 pub const TOO_LONG: usize = 65539;
 
-// A part of the tree expanded: the places after it in the short message and in the full one, the latter at most TOO_LONG. Or why there is none: 7, 15, 6.
-#[derive(Clone, Copy)]
-pub enum Grown {
-    Whole { next: usize, to: usize },
+// A part of the tree expanded: the places after it in the short message and in the full one, the latter at most TOO_LONG.
+#[derive(Clone, Copy, Debug, PartialEq, Eq)]
+pub struct Grown {
+    pub next: usize,
+    pub to: usize,
+}
+
+// Why there is none: 7, 15, 6.
+#[derive(Clone, Copy, Debug, PartialEq, Eq)]
+pub enum Stop {
     Full,
     Mismatch,
     TooMany,
@@ -35,21 +41,16 @@ pub struct Node {
     pub next: usize,
 }
 
-fn wide(b: u8) -> usize
-    ensures { (result ≡ b) × (result < 256) }
-{
-    b as usize
-}
-
 // The mask of the node at a place; a node that is no tensor has none.
 fn mask_at(s: &[u8], at: usize, rule: u8) -> usize
     requires { at ≤ 65538 }
     ensures { MaskAt s.now at rule result }
 {
     if rule == TENSOR_INTRO {
-        return four_at(s, at + 2);
+        four_at(s, at + 2)
+    } else {
+        0
     }
-    0
 }
 
 fn node_at(s: &[u8], at: usize) -> Node
@@ -57,15 +58,11 @@ fn node_at(s: &[u8], at: usize) -> Node
     ensures { NodeAt s.now at result }
 {
     let number = byte_at(s, at);
-    let rule = wide(number);
-    let place = wide(byte_at(s, at + 1));
-    let mask = mask_at(s, at, number);
-    let next = after(s, at, node_length(number));
     Node {
-        rule,
-        place,
-        mask,
-        next,
+        rule: usize::from(number),
+        place: usize::from(byte_at(s, at + 1)),
+        mask: mask_at(s, at, number),
+        next: after(s, at, node_length(number)),
     }
 }
 
@@ -85,42 +82,44 @@ fn put_head(mem: &[u16], z: Zones, w: u64, out: &mut [u8], to: usize) -> usize
 }
 
 // The node whose bytes begin at place `at`, for the sequent z. Its full bytes go to `out` from place `to` on, as far as there is room.
-pub fn grow(mem: &mut [u16], s: &[u8], at: usize, z: Zones, out: &mut [u8], to: usize) -> Grown
+pub fn grow(
+    mem: &mut [u16],
+    s: &[u8],
+    at: usize,
+    z: Zones,
+    out: &mut [u8],
+    to: usize,
+) -> Result<Grown, Stop>
     requires { Growing mem.old s.now at z to }
     ensures { Grows mem.old s.now at z out.old to result mem.new out.new }
 {
-    let spelt = spell_first(mem, z);
-    if spelt.full {
-        return Grown::Full;
-    }
-    let c = spelt.zones;
+    let Some(c) = spell_first(mem, z) else {
+        return Err(Stop::Full);
+    };
     let node = node_at(s, at);
     let takes = may_take(mem, c, node.rule, node.place, node.mask);
     let crowded = is_crowded(c, node.rule);
     if !takes {
-        return Grown::Mismatch;
+        return Err(Stop::Mismatch);
     }
     if crowded {
-        return Grown::TooMany;
+        return Err(Stop::TooMany);
     }
     let w = node_word(node.rule, node.place, node.mask);
     let written = put_head(mem, c, w, out, to);
-    let below = node.next;
     let n = premises(w);
     if n == 0 {
-        return Grown::Whole {
-            next: below,
+        return Ok(Grown {
+            next: node.next,
             to: written,
-        };
+        });
     }
     let p = first_premise(mem, c, w);
-    let first = grow(mem, s, below, p, out, written);
+    let first = grow(mem, s, node.next, p, out, written);
     if n == 1 {
         return first;
     }
-    let Grown::Whole { next, to: second } = first else {
-        return first;
-    };
+    let left = first?;
     let q = second_premise(mem, c, w);
-    grow(mem, s, next, q, out, second)
+    grow(mem, s, left.next, q, out, left.to)
 }
