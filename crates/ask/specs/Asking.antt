@@ -1,5 +1,5 @@
 -- What entering a whole question answers. Assumes nothing: these are definitions.
-use Rattle.std.specs.Prelude.{◌≡◌, Bool, true, false, List, [], map, ℕ, ◌≤◌, ◌<◌, length}
+use Rattle.std.specs.Prelude.{◌≡◌, None, Option, Some, List, [], map, ℕ, ◌≤◌, ◌<◌, length}
 use Rattle.logic.specs.Formula.{Formula}
 use Rattle.logic.specs.Sequent.{Question, one_sided, two_sided, to_one_sided}
 use Rattle.logic.specs.Held.{enter_question}
@@ -10,7 +10,6 @@ use Rattle.zones.specs.declared.Zones.{Zones}
 use Rattle.zones.specs.Zones.{Fits, Below, Within, meant}
 use Rattle.question.specs.Found.{Found}
 use Rattle.question.specs.declared.Places.{Places}
-use Rattle.ask.specs.declared.Asked.{Asked}
 
 -- the bytes are a question, and p says where its zones stand
 pub record Askable (m s : List ℕ) (p : Places) : Type 0 where
@@ -51,25 +50,25 @@ pub record Over (m : List ℕ) (q : Question) (m' : List ℕ) : Type 0 where
   pub grew : Extends m m'
   pub over : most < length (enter_question q (view m))
 
-abbrev pub HeldOr : Bool → List ℕ → Question → Zones → List ℕ → Type 0
-HeldOr true m q z m' = Over m q m'
-HeldOr false m q z m' = Held m q z m'
+abbrev pub HeldOr : List ℕ → Question → Option Zones → List ℕ → Type 0
+HeldOr m q None m' = Over m q m'
+HeldOr m q (Some z) m' = Held m q z m'
 
 -- whatever question the bytes are
-abbrev pub Entering : List ℕ → List ℕ → Asked → List ℕ → Type 0
-Entering m s r m' = (q : Question) → read_question s ≡ got q [] → HeldOr r.full m q r.zones m'
+abbrev pub Entering : List ℕ → List ℕ → Option Zones → List ℕ → Type 0
+Entering m s r m' = (q : Question) → read_question s ≡ got q [] → HeldOr m q r m'
 
 -- the same with nothing changed where there is no room
 pub record NoRoom (m : List ℕ) (q : Question) (m' : List ℕ) : Type 0 where
   pub same : m' ≡ m
   pub over : most < length (enter_question q (view m))
 
-abbrev pub HeldOrNot : Bool → List ℕ → Question → Zones → List ℕ → Type 0
-HeldOrNot true m q z m' = NoRoom m q m'
-HeldOrNot false m q z m' = Held m q z m'
+abbrev pub HeldOrNot : List ℕ → Question → Option Zones → List ℕ → Type 0
+HeldOrNot m q None m' = NoRoom m q m'
+HeldOrNot m q (Some z) m' = Held m q z m'
 
-abbrev pub AskedTo : List ℕ → List ℕ → Asked → List ℕ → Type 0
-AskedTo m s r m' = (q : Question) → read_question s ≡ got q [] → HeldOrNot r.full m q r.zones m'
+abbrev pub AskedTo : List ℕ → List ℕ → Option Zones → List ℕ → Type 0
+AskedTo m s r m' = (q : Question) → read_question s ≡ got q [] → HeldOrNot m q r m'
 
 -- what was entered since the first n formulas can be taken back
 pub record Settles (m : List ℕ) (n : ℕ) : Type 0 where
@@ -77,6 +76,6 @@ pub record Settles (m : List ℕ) (n : ℕ) : Type 0 where
   pub low : n ≤ count m
 
 -- all formulas from n on are taken back where there was no room
-abbrev pub SettledAs : Bool → List ℕ → ℕ → List ℕ → Type 0
-SettledAs true m n m' = TakenBack m n m'
-SettledAs false m n m' = m' ≡ m
+abbrev pub SettledAs : Option Zones → List ℕ → ℕ → List ℕ → Type 0
+SettledAs None m n m' = TakenBack m n m'
+SettledAs (Some z) m n m' = m' ≡ m

@@ -1,6 +1,6 @@
 -- Laws of entering a whole question: its zones stand in its bytes, the numbers that are listed say its sequent, what one part lacks room for the question does, and what is taken back
 -- leaves every word as it was. Assumes nothing.
-use Rattle.std.specs.Prelude.{◌≡◌, refl, Bool, true, false, List, [], ◌++◌, map, ℕ, ◌+◌, ◌-◌, ◌≤◌, ◌<◌, get_or, take}
+use Rattle.std.specs.Prelude.{◌≡◌, refl, true, false, None, Option, Some, List, [], ◌++◌, map, ℕ, ◌+◌, ◌-◌, ◌≤◌, ◌<◌, get_or, take}
 use Rattle.std.proofs.Math.Path.{sym}
 use Rattle.std.proofs.Common.{ap, ◌∙◌, arith, lt_of_lt_of_le, length-drop, length-take-le, get_or-take, get_or-drop, take-add, ext_get_or}
 use Rattle.std.proofs.lemmas.List.{map-append, length-map}
@@ -11,17 +11,17 @@ use Rattle.logic.specs.Held.{enter_all, enter_question}
 use Rattle.wire.specs.Read.{got, read_question}
 use Rattle.wire.specs.Fits.{first_zone, second_zone}
 use Rattle.held.specs.Words.{count, most, view, told, named, Wf, Extends}
+use Rattle.held.specs.Answers.{TakenBack}
+use Rattle.std.specs.Option.{is_some}
 use Rattle.held.specs.WordsLaws.{extends_refl, extends_trans, keeps}
 use Rattle.held.specs.EnterLaws.{enter_all_longer}
 use Rattle.held.specs.CutLaws.{cut_back}
 use Rattle.zones.specs.ZonesLaws.{map_at, below_append}
+use Rattle.zones.specs.declared.Zones.{Zones}
 use Rattle.question.specs.Answers.{kind_of}
 use Rattle.question.specs.Found.{Found, Cut}
 use Rattle.question.specs.declared.Places.{Places}
 use Rattle.enter.specs.Lists.{Names, Zone, Zoned, EnteredAll, OverAll, ListedAll, ListedFrom, Negatable, NegatedAll, NegatedFrom}
-use Rattle.enter.specs.declared.lists.Listed.{Listed}
-use Rattle.enter.specs.declared.lists.Listed.TheVariants as listed
-use Rattle.ask.specs.declared.Asked.{Asked}
 use Rattle.ask.specs.Asking.{Askable, OneSided, TwoSided, Says, Held, Over, HeldOr, Entering, HeldOrNot, AskedTo, Settles, SettledAs}
 
 -- ---- numbers and the formulas that they say
@@ -87,28 +87,28 @@ module _ {s : List ℕ} {p : Places} {q : Question} (found : Found s p q) where
       record { wf = z; formulas = second_zone q; zone = cut_zone found.second_cut; fits = found.fits.zones_fit.second_fits; room = omega (arith, few_formulas) }
 
   -- what entering a zone answers
-  module _ (m numbers : List ℕ) (from : ℕ) (r : Listed) (m' numbers' : List ℕ) where
-    pub first_listed : ListedFrom m s p.first p.first_end numbers from r m' numbers' → {n : ℕ} → r ≡ listed.Count n → ListedAll m (first_zone q) numbers from n m' numbers'
+  module _ (m numbers : List ℕ) (from : ℕ) (r : Option ℕ) (m' numbers' : List ℕ) where
+    pub first_listed : ListedFrom m s p.first p.first_end numbers from r m' numbers' → {n : ℕ} → r ≡ Some n → ListedAll m (first_zone q) numbers from n m' numbers'
     first_listed x e = (rw e at x) (first_zone q) found.first_cut.read
 
-    pub first_full : ListedFrom m s p.first p.first_end numbers from r m' numbers' → r ≡ listed.Full → OverAll m (first_zone q) m'
+    pub first_full : ListedFrom m s p.first p.first_end numbers from r m' numbers' → r ≡ None → OverAll m (first_zone q) m'
     first_full x e = (rw e at x) (first_zone q) found.first_cut.read
 
-    pub second_listed : ListedFrom m s p.second p.second_end numbers from r m' numbers' → {n : ℕ} → r ≡ listed.Count n → ListedAll m (second_zone q) numbers from n m' numbers'
+    pub second_listed : ListedFrom m s p.second p.second_end numbers from r m' numbers' → {n : ℕ} → r ≡ Some n → ListedAll m (second_zone q) numbers from n m' numbers'
     second_listed x e = (rw e at x) (second_zone q) found.second_cut.read
 
-    pub second_full : ListedFrom m s p.second p.second_end numbers from r m' numbers' → r ≡ listed.Full → OverAll m (second_zone q) m'
+    pub second_full : ListedFrom m s p.second p.second_end numbers from r m' numbers' → r ≡ None → OverAll m (second_zone q) m'
     second_full x e = (rw e at x) (second_zone q) found.second_cut.read
 
   -- whatever question the bytes are, they are this one
   found_once : (q' : Question) → read_question s ≡ got q' [] → q' ≡ q
   found_once q' e = let h : got q' [] ≡ got q [] = sym e ∙ found.read in cc
 
-  pub entering_held : (m m' : List ℕ) (r : Asked) → r.full ≡ false → Held m q r.zones m' → Entering m s r m'
-  entering_held m m' r full h q' e = rw (full, found_once q' e) h
+  pub entering_held : (m m' : List ℕ) (z : Zones) → Held m q z m' → Entering m s (Some z) m'
+  entering_held m m' z h q' e = rw (found_once q' e) h
 
-  pub entering_over : (m m' : List ℕ) (r : Asked) → r.full ≡ true → Over m q m' → Entering m s r m'
-  entering_over m m' r full h q' e = rw (full, found_once q' e) h
+  pub entering_over : (m m' : List ℕ) → Over m q m' → Entering m s None m'
+  entering_over m m' h q' e = rw (found_once q' e) h
 
 -- ---- no room
 
@@ -150,11 +150,11 @@ one_sided_held {m} {s} {p} z {zeros} {zeros'} {n} {k} {m₁} {numbers} {m₂} {n
 -- ---- kind 2
 
 -- the cases of negating what is listed
-module _ (m numbers : List ℕ) (n : ℕ) (r : Bool) (m' numbers' : List ℕ) (x : NegatedFrom m numbers n r m' numbers') where
-  pub negated_all : r ≡ true → NegatedAll m numbers n m' numbers'
+module _ (m numbers : List ℕ) (n : ℕ) (r : Option (Unit {0})) (m' numbers' : List ℕ) (x : NegatedFrom m numbers n r m' numbers') where
+  pub negated_all : {u : Unit {0}} → r ≡ Some u → NegatedAll m numbers n m' numbers'
   negated_all e = rw e at x
 
-  pub negated_full : r ≡ false → OverAll m (map negate (named m numbers n)) m'
+  pub negated_full : r ≡ None → OverAll m (map negate (named m numbers n)) m'
   negated_full e = rw e at x
 
 module _ {m s : List ℕ} {p : Places} (z : TwoSided m s p) {zeros : List ℕ} {n k : ℕ} {m₁ numbers₁ m₂ numbers₂ : List ℕ}
@@ -228,19 +228,34 @@ asked_two_sided {m} {s} {p} z f = go z.question z.found
     go (one_sided Γ Θ) found = absurd (f (found.kind_is ∙ kind_one Γ Θ))
     go (two_sided Γ Δ) found = record { wf = z.wf; antecedent = Γ; succedent = Δ; found = found }
 
+-- whether there was room
+pub settled_none : {m m' : List ℕ} {n : ℕ} (r : Option Zones) → is_some r ≡ false → TakenBack m n m' → SettledAs r m n m'
+settled_none None e t = t
+settled_none (Some z) e t = absurd (clash e)
+  where
+    clash : true ≡ false → ⊥
+    clash e = cc
+
+pub settled_some : (m : List ℕ) (n : ℕ) (r : Option Zones) → is_some r ≡ true → SettledAs r m n m
+settled_some m n None e = absurd (clash e)
+  where
+    clash : false ≡ true → ⊥
+    clash e = cc
+settled_some m n (Some z) e = refl
+
 -- what was entered can be taken back
-module _ {m s : List ℕ} {p : Places} (z : Askable m s p) (r : Asked) (m₁ : List ℕ) (x : Entering m s r m₁) where
+module _ {m s : List ℕ} {p : Places} (z : Askable m s p) (r : Option Zones) (m₁ : List ℕ) (x : Entering m s r m₁) where
   pub entering_settles : {n : ℕ} → n ≡ count m → Settles m₁ n
-  entering_settles {n} e = go r.full (x z.question z.found.read)
+  entering_settles {n} e = go r (x z.question z.found.read)
     where
-      go : (b : Bool) → HeldOr b m z.question r.zones m₁ → Settles m₁ n
-      go true h = record { wf = h.wf; low = omega (arith, h.grew.more) }
-      go false h = record { wf = h.wf; low = omega (arith, h.grew.more) }
+      go : (r : Option Zones) → HeldOr m z.question r m₁ → Settles m₁ n
+      go None h = record { wf = h.wf; low = omega (arith, h.grew.more) }
+      go (Some k) h = record { wf = h.wf; low = omega (arith, h.grew.more) }
 
   -- and then nothing has changed
-  pub settled_asked : {n : ℕ} → n ≡ count m → (r' : Asked) (m₂ : List ℕ) → (r' ≡ r) × SettledAs r.full m₁ n m₂ → AskedTo m s r' m₂
-  settled_asked {n} e r' m₂ y q h = rw y.0 (go r.full (x q h) y.1)
+  pub settled_asked : {n : ℕ} → n ≡ count m → (m₂ : List ℕ) → SettledAs r m₁ n m₂ → AskedTo m s r m₂
+  settled_asked {n} e m₂ y q h = go r (x q h) y
     where
-      go : (b : Bool) → HeldOr b m q r.zones m₁ → SettledAs b m₁ n m₂ → HeldOrNot b m q r.zones m₂
-      go true u w = record { same = cut_back m m₁ m₂ z.wf u.grew (rw e at w); over = u.over }
-      go false u w = rw w u
+      go : (r : Option Zones) → HeldOr m q r m₁ → SettledAs r m₁ n m₂ → HeldOrNot m q r m₂
+      go None u w = record { same = cut_back m m₁ m₂ z.wf u.grew (rw e at w); over = u.over }
+      go (Some k) u w = rw w u

@@ -1,5 +1,5 @@
 -- The answer of `read_into`, its sequent's numbers and the words after it are settled by what it promises: no second result keeps the promise. Assumes nothing.
-use Rattle.std.specs.Prelude.{◌≡◌, refl, List, [], ◌∷◌, map, ℕ, suc, ◌<◌, length, get_or, drop}
+use Rattle.std.specs.Prelude.{◌≡◌, refl, Err, Ok, Result, List, [], ◌∷◌, map, ℕ, suc, ◌<◌, length, get_or, drop}
 use Rattle.std.proofs.Common.{sym, ap, ap₂, subst, ◌∙◌, arith}
 use Rattle.std.proofs.lemmas.List.{length-map}
 use Rattle.logic.specs.Formula.{One}
@@ -12,10 +12,8 @@ use Rattle.zones.specs.declared.Zones.{Zones}
 use Rattle.zones.specs.Zones.{linears, unrestricteds, meant, Below}
 use Rattle.memory.specs.Meaning.{Wf, StandsIn, formula_words, holds, held_count, told}
 use Rattle.memory.specs.SettledLaws.{image_once}
-use Rattle.ask.specs.declared.whole.Entered.{Entered}
-use Rattle.ask.specs.declared.whole.Reading.{Reading}
-use Rattle.ask.specs.declared.whole.Reading.TheVariants.{Sequent, Refused}
-use Rattle.ask.specs.Reading.{Taken, TakenOr, ReadInto}
+use Rattle.formula.specs.declared.Refusal.{Refusal}
+use Rattle.ask.specs.Reading.{reading_of, Taken, TakenOr, ReadInto}
 
 number_same : (m : List ℕ) → Wf m → (x y : ℕ) → x < held_count m → y < held_count m → told m x ≡ told m y → x ≡ y
 unfolding told held_count
@@ -53,12 +51,14 @@ module _ {m s : List ℕ} {z z' : Zones} {m' m'' : List ℕ} (a : Taken m s z m'
     taken_words,
   )
 
-pub read_once : (m s : List ℕ) (r r' : Entered) (m' m'' : List ℕ) → ReadInto m s r m' → ReadInto m s r' m'' → (r.reading ≡ r'.reading) × (m' ≡ m'')
-read_once m s r r' m' m'' x y = (same, go r.reading x.after (rw (← same) at y.after))
+pub read_once : (m s : List ℕ) (r r' : Result Zones Refusal) (m' m'' : List ℕ) → ReadInto m s r m' → ReadInto m s r' m'' → (reading_of r ≡ reading_of r') × (m' ≡ m'')
+read_once m s r r' m' m'' x y = (same, go r r' same x.after y.after)
   where
-    same : r.reading ≡ r'.reading
+    same : reading_of r ≡ reading_of r'
     same = x.answer ∙ sym y.answer
 
-    go : (b : Reading) → TakenOr b m s r.zones m' → TakenOr b m s r'.zones m'' → m' ≡ m''
-    go Sequent a b = (taken_once a b).1
-    go (Refused why) a b = a ∙ sym b
+    go : (r r' : Result Zones Refusal) → reading_of r ≡ reading_of r' → TakenOr r m s m' → TakenOr r' m s m'' → m' ≡ m''
+    go (Ok z) (Ok z') e a b = (taken_once a b).1
+    go (Ok z) (Err why) e a b = absurd cc
+    go (Err why) (Ok z') e a b = absurd cc
+    go (Err why) (Err why') e a b = a ∙ sym b

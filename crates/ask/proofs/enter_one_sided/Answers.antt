@@ -1,3 +1,4 @@
+use Rattle.std.proofs.Common.{rules}
 use mathlib.Core.Path.{refl}
 use native.Mathlib.Omega.{arith}
 use Rattle.ask.specs.AskingLaws.{first_zoned, second_zoned, first_listed, first_full, second_listed, second_full, entering_held, entering_over, first_over, second_over, one_sided_held}
@@ -6,14 +7,14 @@ use Rattle.ask.proofs.enter_one_sided.Goals as goal
 pub enter_formulas-requires : goal.enter_formulas-requires
 enter_formulas-requires c = first_zoned c.requires.found _ c.requires.wf refl
 
-pub returns-in_default : goal.returns-in_default
-returns-in_default c = entering_over c.requires.found _ _ _ c.no_room.ensures (first_over (first_full c.requires.found _ _ _ c.enter_formulas.result _ _ c.enter_formulas.ensures c.in_default.is))
+pub returns-in_err-linear_len : goal.returns-in_err-linear_len
+returns-in_err-linear_len c = let h = entering_over c.requires.found _ _ (first_over (first_full c.requires.found _ _ _ c.enter_formulas.result _ _ c.enter_formulas.ensures c.in_err-linear_len.was)) in search rules
 
 pub enter_formulas-requires-2 : goal.enter_formulas-requires-2
-enter_formulas-requires-2 c = second_zoned c.requires.found _ 0 (first_listed c.requires.found _ _ _ c.enter_formulas.result _ _ c.enter_formulas.ensures c.in-Count.is).entered.wf refl (omega arith)
+enter_formulas-requires-2 c = second_zoned c.requires.found _ 0 (first_listed c.requires.found _ _ _ c.enter_formulas.result _ _ c.enter_formulas.ensures c.in_ok-linear_len.was).entered.wf refl (omega arith)
 
-pub returns-in_default-enter_formulas : goal.returns-in_default-enter_formulas
-returns-in_default-enter_formulas c = entering_over c.requires.found _ _ _ c.no_room-in_default-enter_formulas.ensures (second_over (first_listed c.requires.found _ _ _ c.enter_formulas.result _ _ c.enter_formulas.ensures c.in-Count.is).entered (second_full c.requires.found _ _ _ c.enter_formulas-2.result _ _ c.enter_formulas-2.ensures c.in_default-enter_formulas.is))
+pub returns-in_err-unrestricted_len : goal.returns-in_err-unrestricted_len
+returns-in_err-unrestricted_len c = let h = entering_over c.requires.found _ _ (second_over (first_listed c.requires.found _ _ _ c.enter_formulas.result _ _ c.enter_formulas.ensures c.in_ok-linear_len.was).entered (second_full c.requires.found _ _ _ c.enter_formulas-2.result _ _ c.enter_formulas-2.ensures c.in_err-unrestricted_len.was)) in search rules
 
 pub returns : goal.returns
-returns c = entering_held c.requires.found _ _ _ refl (one_sided_held c.requires (first_listed c.requires.found _ _ _ c.enter_formulas.result _ _ c.enter_formulas.ensures c.in-Count.is) (second_listed c.requires.found _ _ _ c.enter_formulas-2.result _ _ c.enter_formulas-2.ensures c.in-Count-enter_formulas.is) refl refl)
+returns c = entering_held c.requires.found _ _ _ (one_sided_held c.requires (first_listed c.requires.found _ _ _ c.enter_formulas.result _ _ c.enter_formulas.ensures c.in_ok-linear_len.was) (second_listed c.requires.found _ _ _ c.enter_formulas-2.result _ _ c.enter_formulas-2.ensures c.in_ok-unrestricted_len.was) refl refl)
