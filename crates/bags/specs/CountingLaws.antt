@@ -1,19 +1,19 @@
 -- Multisets compared by counting: two lists are the same multiset exactly where they have as many formulas and each formula of the first stands equally often in both. Assumes nothing.
-use Rattle.std.specs.Prelude.{◌≡◌, refl, Bool, true, false, ◌&&◌, List, [], ◌∷◌, ◌++◌, ℕ, suc, ◌+◌, ◌≤◌, eqb, length}
-use Rattle.std.proofs.Common.{sym, ap, ap₂, ◌∙◌, arith, eq-eqb, eqb-true, ne_eqb, length-append}
+use Rattle.std.specs.Prelude.{◌≡◌, refl, Bool, true, false, ◌&&◌, List, [], ◌∷◌, ◌++◌, ℕ, suc, ◌+◌, ◌≤◌, ◌<◌, eqb, length}
+use Rattle.std.proofs.Common.{sym, ap, ap₂, ◌∙◌, arith, eq-eqb, eqb-true, ne_eqb}
+use Rattle.std.proofs.Math.ListN.{get_or}
 use Rattle.std.proofs.Math.Bool.{So, and-eq-true_iff, and_assoc}
 use Rattle.logic.specs.Formula.{Formula, same}
 use Rattle.logic.proofs.FormulaLaws.{same_iff}
 use Rattle.logic.specs.Zone.{total}
-use Rattle.logic.proofs.ZoneLaws.{total_append}
 use Rattle.logic.specs.Legal.{as_number, times, plain}
 use Rattle.logic.specs.Key.{same_bag}
 use Rattle.logic.proofs.Bags.{same_bag_iff, same_length, counts_itself}
 use Rattle.bags.specs.ReadingLaws.{same_test}
-use Rattle.bags.specs.Compared.{read_at}
-use Rattle.bags.specs.Runs.{BagReads, Counts, CountsIn, Long, LongIn, agree_on, Agrees, BagsSame}
-use Rattle.bags.specs.declared.Place.{Place}
-use Rattle.bags.specs.declared.Bag.{Bag}
+use Rattle.bags.specs.Runs.{BagReads, LongIn, agree_on, Agrees, BagsSame}
+use Rattle.bags.specs.Walks.{AgreeingAll}
+use Rattle.bags.specs.WalksLaws.{runs_start, runs_here, runs_next, runs_end}
+use Rattle.bags.specs.declared.Run.{Run}
 
 -- each formula of the first list stands equally often in the other two
 EqualOn : List Formula → List Formula → List Formula → Type 0
@@ -78,30 +78,7 @@ unfolding agree_on
 agree_append [] bs xs ys = refl
 agree_append (f ∷ fs) bs xs ys = ap (λ b. eqb (times plain f xs) (times plain f ys) && b) (agree_append fs bs xs ys) ∙ sym (and_assoc (eqb (times plain f xs) (times plain f ys)) (agree_on fs xs ys) (agree_on bs xs ys))
 
--- ---- the multiset of three runs
-
-module _ (s : List ℕ) (bag : Bag) where
-  pub counts_in : {x : Place} {a b c r : ℕ} → Counts s bag.first x a → Counts s bag.second x b → Counts s bag.third x c → r ≡ a + b + c → CountsIn s bag x r
-  counts_in {x} {a} {b} {c} {r} one two three sum = record {
-    right = λ fs f reads here.
-        let w = read_at x f in
-        let e : times plain w fs ≡ times plain w reads.one + (times plain w reads.two + times plain w reads.three) = ap (times plain w) reads.joined ∙ simp total_append in
-        omega (arith, one.right reads.one f reads.one_reads here, two.right reads.two f reads.two_reads here, three.right reads.three f reads.three_reads here);
-  }
-
-  pub long_in : {a b c r : ℕ} → Long s bag.first a → Long s bag.second b → Long s bag.third c → r ≡ a + b + c → LongIn s bag r
-  long_in one two three sum = record {
-    right = λ fs reads.
-        omega (
-          arith,
-          ap length reads.joined,
-          length-append reads.one (reads.two ++ reads.three),
-          length-append reads.two reads.three,
-          one.right reads.one reads.one_reads,
-          two.right reads.two reads.two_reads,
-          three.right reads.three reads.three_reads,
-        );
-  }
+-- ---- multisets of runs
 
 -- tests in a row
 no_first : (a b : Bool) {t : Bool} → false ≡ a → a && b ≡ t → false ≡ t
@@ -110,35 +87,38 @@ no_first a b e k = ap (λ c. c && b) e ∙ k
 yes_first : (a b : Bool) {t : Bool} → true ≡ a → a && b ≡ t → b ≡ t
 yes_first a b e k = ap (λ c. c && b) e ∙ k
 
-module _ (s : List ℕ) (x y : Bag) {m n : ℕ} (long_x : LongIn s x m) (long_y : LongIn s y n) where
-  module _ (xs ys : List Formula) (x_is : BagReads s x xs) (y_is : BagReads s y ys) where
-    lengths : eqb m n ≡ eqb (length xs) (length ys)
-    lengths = ap₂ eqb (long_x.right xs x_is) (long_y.right ys y_is)
-
-    each : agree_on xs xs ys ≡ agree_on x_is.one xs ys && (agree_on x_is.two xs ys && agree_on x_is.three xs ys)
-    each =
-        ap (λ l. agree_on l xs ys) x_is.joined ∙ agree_append x_is.one (x_is.two ++ x_is.three) xs ys
-        ∙ ap (λ b. agree_on x_is.one xs ys && b) (agree_append x_is.two x_is.three xs ys)
-
-    tests : m ≡ n → agree_on x_is.one xs ys && (agree_on x_is.two xs ys && agree_on x_is.three xs ys) ≡ same_bag xs ys
-    tests h = sym each ∙ yes_first _ _ (sym (eq-eqb m n h) ∙ lengths) (counted_same xs ys)
+module _ (s : List ℕ) (x y : List Run) {m n : ℕ} (long_x : LongIn s x m) (long_y : LongIn s y n) where
+  lengths : (xs ys : List Formula) → BagReads s x xs → BagReads s y ys → eqb m n ≡ eqb (length xs) (length ys)
+  lengths xs ys x_is y_is = ap₂ eqb (long_x.right xs x_is) (long_y.right ys y_is)
 
   pub other_lengths : (m ≡ n → ⊥) → BagsSame s x y false
   other_lengths h = record { right = λ xs ys x_is y_is. no_first _ _ (sym (ne_eqb m n h) ∙ lengths xs ys x_is y_is) (counted_same xs ys) }
 
-  module _ (alike : m ≡ n) {a : Bool} (first : Agrees s x.first x y a) where
-    pub other_first : a ≡ false → BagsSame s x y false
-    other_first e = record { right = λ xs ys x_is y_is. no_first _ _ (sym e ∙ first.right _ xs ys x_is.one_reads x_is y_is) (tests xs ys x_is y_is alike) }
+  module _ (alike : m ≡ n) where
+    each : (xs ys : List Formula) → BagReads s x xs → BagReads s y ys → agree_on xs xs ys ≡ same_bag xs ys
+    each xs ys x_is y_is = yes_first _ _ (sym (eq-eqb m n alike) ∙ lengths xs ys x_is y_is) (counted_same xs ys)
 
-    module _ (a_is : a ≡ true) {b : Bool} (second : Agrees s x.second x y b) where
-      later : (xs ys : List Formula) (x_is : BagReads s x xs) → BagReads s y ys → agree_on x_is.two xs ys && agree_on x_is.three xs ys ≡ same_bag xs ys
-      later xs ys x_is y_is = yes_first _ _ (sym a_is ∙ first.right _ xs ys x_is.one_reads x_is y_is) (tests xs ys x_is y_is alike)
-
-      pub other_second : b ≡ false → BagsSame s x y false
-      other_second e = record { right = λ xs ys x_is y_is. no_first _ _ (sym e ∙ second.right _ xs ys x_is.two_reads x_is y_is) (later xs ys x_is y_is) }
-
-      pub by_third : b ≡ true → {r : Bool} → Agrees s x.third x y r → BagsSame s x y r
-      by_third b_is third = record {
+    module _ {i : ℕ} (t : AgreeingAll s x i x y) where
+      -- the formulas of a run that are not equally often in both
+      pub other_run : (d : Run) {r : Bool} → i < length x → Agrees s (get_or x i d) x y r → r ≡ false → BagsSame s x y false
+      other_run d h agrees e = record {
         right = λ xs ys x_is y_is.
-            third.right _ xs ys x_is.three_reads x_is y_is ∙ yes_first _ _ (sym b_is ∙ second.right _ xs ys x_is.two_reads x_is y_is) (later xs ys x_is y_is);
+            let here = runs_here s x d h t.walk xs x_is in
+            let none : false ≡ agree_on here.formulas xs ys = sym e ∙ agrees.right here.formulas xs ys here.reads x_is y_is in
+            no_first _ (agree_on here.others xs ys) none (sym (agree_append here.formulas here.others xs ys) ∙ sym (here.so xs ys x_is y_is) ∙ each xs ys x_is y_is);
       }
+
+      pub all_runs : length x ≤ i → BagsSame s x y true
+      unfolding agree_on
+      all_runs h = record { right = λ xs ys x_is y_is. sym (runs_end s x h t.walk xs x_is xs ys x_is y_is) ∙ each xs ys x_is y_is }
+
+module _ (s : List ℕ) (x y : List Run) where
+  pub agreeing_all_start : AgreeingAll s x 0 x y
+  agreeing_all_start = record { walk = runs_start s x λ fs xs ys x_is y_is. refl }
+
+  pub agreeing_all_next : {i : ℕ} (d : Run) {r : Bool} → i < length x → AgreeingAll s x i x y → Agrees s (get_or x i d) x y r → r ≡ true → AgreeingAll s x (i + 1) x y
+  agreeing_all_next d h t agrees e = record {
+    walk = runs_next s x d h t.walk λ fs gs rest reads so xs ys x_is y_is.
+        let all : true ≡ agree_on gs xs ys = sym e ∙ agrees.right gs xs ys reads x_is y_is in
+        so xs ys x_is y_is ∙ agree_append gs rest xs ys ∙ sym (yes_first _ (agree_on rest xs ys) all refl);
+  }

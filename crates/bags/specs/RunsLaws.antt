@@ -1,43 +1,32 @@
--- Laws of runs: the multiset that one run makes, or two. Assumes nothing.
-use Rattle.std.specs.Prelude.{◌≡◌, refl, List, [], ◌++◌, ℕ}
-use Rattle.std.proofs.Common.{sym, ap, ◌∙◌, append-nil, arith}
-use Rattle.bags.specs.Runs.{RunWithin, Reads, OneRun, TwoRuns}
+-- Laws of runs: the multiset that one run makes, or two, or three. Assumes nothing.
+use Rattle.std.specs.Prelude.{refl, List, [], ◌∷◌, ◌++◌, ℕ}
+use Rattle.std.proofs.Common.{sym, append-nil, arith}
+use Rattle.std.proofs.lemmas.List.Elements.{All-from_recursion}
+use Rattle.logic.specs.Formula.{Formula}
+use Rattle.bags.specs.Runs.{RunWithin, BagWithin, Reads, BagReads}
 use Rattle.bags.specs.declared.Run.{Run}
-use Rattle.bags.specs.declared.Bag.{Bag}
 
-module _ {none : Run} (at_is : none.at ≡ 0) (end_is : none.end ≡ 0) where
-  none_within : (len : ℕ) → RunWithin len none
-  none_within len = record { at_inside = omega arith; end_inside = omega arith }
+module _ {len : ℕ} {a : Run} (h : RunWithin len a) where
+  pub one_within : BagWithin len (a ∷ [])
+  one_within = record { few = omega arith; runs_within = All-from_recursion (RunWithin len) (a ∷ []) (h, tt) }
 
-  none_reads : (s : List ℕ) → Reads s none []
-  none_reads s = record { stand = []; along = at_is ∙ sym end_is; read = refl }
+  module _ {b : Run} (k : RunWithin len b) where
+    pub two_within : BagWithin len (a ∷ b ∷ [])
+    two_within = record { few = omega arith; runs_within = All-from_recursion (RunWithin len) (a ∷ b ∷ []) (h, (k, tt)) }
 
-  pub two_runs : (first second : Run) {r : Bag} → r.first ≡ first → r.second ≡ second → r.third ≡ none → TwoRuns first second r
-  two_runs first second e₁ e₂ e₃ = record {
-    within = λ len h k. record { first_within = rw e₁ h; second_within = rw e₂ k; third_within = rw e₃ (none_within len) };
-    reads = λ s {fs} {gs} h k.
-        record {
-          one = fs;
-          two = gs;
-          three = [];
-          one_reads = rw e₁ h;
-          two_reads = rw e₂ k;
-          three_reads = rw e₃ (none_reads s);
-          joined = ap (λ l. fs ++ l) (sym (append-nil gs));
-        };
-  }
+    pub three_within : {c : Run} → RunWithin len c → BagWithin len (a ∷ b ∷ c ∷ [])
+    three_within {c} l = record { few = omega arith; runs_within = All-from_recursion (RunWithin len) (a ∷ b ∷ c ∷ []) (h, (k, (l, tt))) }
 
-pub one_run : (first : Run) {none none' : Run} {r : Bag} → none.at ≡ 0 → none.end ≡ 0 → none'.at ≡ 0 → none'.end ≡ 0 → r.first ≡ first → r.second ≡ none → r.third ≡ none' → OneRun first r
-one_run first a₁ b₁ a₂ b₂ e₁ e₂ e₃ = record {
-  within = λ len h. record { first_within = rw e₁ h; second_within = rw e₂ (none_within a₁ b₁ len); third_within = rw e₃ (none_within a₂ b₂ len) };
-  reads = λ s {fs} h.
-      record {
-        one = fs;
-        two = [];
-        three = [];
-        one_reads = rw e₁ h;
-        two_reads = rw e₂ (none_reads a₁ b₁ s);
-        three_reads = rw e₃ (none_reads a₂ b₂ s);
-        joined = sym (append-nil fs);
-      };
-}
+module _ {s : List ℕ} where
+  one_more : {a : Run} {bag : List Run} {fs gs : List Formula} → Reads s a fs → BagReads s bag gs → BagReads s (a ∷ bag) (fs ++ gs)
+  one_more {fs = fs} {gs = gs} h k = record { all_read = (fs, gs, h, k.all_read, refl) }
+
+  pub one_reads : {a : Run} {fs : List Formula} → Reads s a fs → BagReads s (a ∷ []) fs
+  one_reads {fs = fs} h = record { all_read = (fs, [], h, refl, sym (append-nil fs)) }
+
+  module _ {a b : Run} {fs gs : List Formula} (h : Reads s a fs) (k : Reads s b gs) where
+    pub two_reads : BagReads s (a ∷ b ∷ []) (fs ++ gs)
+    two_reads = one_more h (one_reads k)
+
+    pub three_reads : {c : Run} {hs : List Formula} → Reads s c hs → BagReads s (a ∷ b ∷ c ∷ []) (fs ++ (gs ++ hs))
+    three_reads l = one_more h (one_more k (one_reads l))

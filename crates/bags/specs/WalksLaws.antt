@@ -1,24 +1,25 @@
 -- Laws of walks over a run: a walk begins, goes one formula on, and ends; so counting and comparing go over all formulas of a run. Assumes nothing.
-use Rattle.std.specs.Prelude.{◌≡◌, refl, true, ℕ, ◌+◌, ◌≤◌, ◌<◌, length}
+use Rattle.std.specs.Prelude.{◌≡◌, refl, true, ◌++◌, ℕ, ◌+◌, ◌≤◌, ◌<◌, length, drop}
 use Rattle.std.proofs.Math.Path.{sym, ap}
-use Rattle.std.proofs.Common.{◌∙◌, arith, eq-eqb, ne_eqb}
+use Rattle.std.proofs.Common.{◌∙◌, add-one, arith, eq-eqb, ne_eqb, length-append, drop-cons}
 use Rattle.std.proofs.Math.Bool.{false}
 use mathlib.Core.List.{List, [], ◌∷◌, map}
 use Rattle.std.proofs.Math.Dec.{eqb}
+use Rattle.std.proofs.Math.ListN.{get_or, drop_of_length-le}
 use Rattle.std.proofs.lemmas.List.{length-map}
 use Rattle.logic.specs.Formula.{Formula, size, same}
 use Rattle.logic.proofs.FormulaLaws.{size_positive}
 use Rattle.logic.specs.Zone.{total}
+use Rattle.logic.proofs.ZoneLaws.{total_append}
 use Rattle.logic.specs.Legal.{as_number, times, plain}
 use Rattle.tree.specs.Places.{FormulaAt, Passed}
 use Rattle.bags.specs.Reading.{read_as}
 use Rattle.bags.specs.Compared.{read_at, Once}
-use Rattle.bags.specs.Runs.{Along, BagReads, Counts, CountsIn, Long, agree_on, Agrees}
-use Rattle.bags.specs.Walks.{Walk, Here, Timing, Agreeing, Counting}
+use Rattle.bags.specs.Runs.{Short, Along, Reads, BagReads, Counts, CountsIn, Long, LongIn, agree_on, Agrees}
+use Rattle.bags.specs.Walks.{Walk, Here, Timing, Agreeing, Counting, RunHere, RunsWalk, TimingAll, CountingAll}
 use Rattle.bags.specs.declared.How.{How}
 use Rattle.bags.specs.declared.Place.{Place}
 use Rattle.bags.specs.declared.Run.{Run}
-use Rattle.bags.specs.declared.Bag.{Bag}
 
 along_within : (s : List ℕ) (end p : ℕ) (fs : List Formula) → Along s end p fs → p ≤ end
 along_within s end p [] h = omega arith
@@ -104,7 +105,7 @@ module _ (s : List ℕ) (end : ℕ) where
     }
 
 -- whether two multisets agree on the formulas of a run
-module _ (s : List ℕ) (x y : Bag) (end : ℕ) (how : How) where
+module _ (s : List ℕ) (x y : List Run) (end : ℕ) (how : How) where
   pub agreeing_start : (p₀ : ℕ) → Agreeing s end how p₀ p₀ x y
   agreeing_start p₀ = record { walk = walk_start s end p₀ λ fs xs ys x_is y_is. refl }
 
@@ -141,3 +142,63 @@ module _ (s : List ℕ) (x y : Bag) (end : ℕ) (how : How) where
         let all : fs ≡ map (read_as how) reads.stand = reads.read ∙ ap (λ h. map (read_as h) reads.stand) run_how in
         rw all (sym (walk_end s end h t.walk reads.stand along xs ys x_is y_is));
   }
+
+-- ---- from run to run
+
+module _ (s : List ℕ) (bag : List Run) where
+  pub runs_start : {P : List Formula → List Formula → Type 0} → ((fs : List Formula) → P fs fs) → RunsWalk s bag 0 P
+  runs_start h = record { left = λ fs read. record { rest = fs; read = read; so = h fs } }
+
+  module _ {i : ℕ} {P : List Formula → List Formula → Type 0} where
+    pub runs_here : (d : Run) → i < length bag → RunsWalk s bag i P → (fs : List Formula) → BagReads s bag fs → RunHere s bag i (get_or bag i d) (P fs)
+    runs_here d h walk fs read =
+        let l = walk.left fs read in
+        let here : BagReads s (get_or bag i d ∷ drop (i + 1) bag) l.rest = rw (add-one, ← drop-cons bag i d h) l.read in
+        let p = here.all_read in
+        record { formulas = p.0; others = p.1; reads = p.2; read = record { all_read = p.3 }; so = rw (← p.4) l.so }
+
+    pub runs_next : (d : Run) {P' : List Formula → List Formula → Type 0} → i < length bag → RunsWalk s bag i P
+        → ((fs gs rest : List Formula) → Reads s (get_or bag i d) gs → P fs (gs ++ rest) → P' fs rest) → RunsWalk s bag (i + 1) P'
+    runs_next d h walk step = record {
+      left = λ fs read.
+          let here = runs_here d h walk fs read in
+          record { rest = here.others; read = here.read; so = step fs here.formulas here.others here.reads here.so };
+    }
+
+    pub runs_end : length bag ≤ i → RunsWalk s bag i P → (fs : List Formula) → BagReads s bag fs → P fs []
+    runs_end h walk fs read =
+        let l = walk.left fs read in
+        let none : BagReads s [] l.rest = rw (← drop_of_length-le bag h) l.read in
+        rw (← none.all_read) l.so
+
+-- how often a formula stands in a multiset
+module _ (s : List ℕ) (bag : List Run) (x : Place) where
+  pub timing_all_start : TimingAll s bag 0 x 0
+  timing_all_start = record { few = omega arith; walk = runs_start s bag λ fs f here. omega arith }
+
+  module _ {i n : ℕ} (t : TimingAll s bag i x n) where
+    pub timing_all_next : (d : Run) {k : ℕ} → Short s → i < length bag → Counts s (get_or bag i d) x k → TimingAll s bag (i + 1) x (n + k)
+    timing_all_next d {k} short h counts = record {
+      few = omega (arith, t.few, counts.few, short.short);
+      walk = runs_next s bag d h t.walk λ fs gs rest reads so f here.
+          so f here ∙ (let both : times plain (read_at x f) (gs ++ rest) ≡ times plain (read_at x f) gs + times plain (read_at x f) rest = simp total_append refl in omega (arith, counts.right gs f reads here));
+    }
+
+    pub timing_all_end : length bag ≤ i → CountsIn s bag x n
+    unfolding total
+    timing_all_end h = record { right = λ fs f read here. omega (arith, runs_end s bag h t.walk fs read f here) }
+
+-- how many formulas a multiset has
+module _ (s : List ℕ) (bag : List Run) where
+  pub counting_all_start : CountingAll s bag 0 0
+  counting_all_start = record { few = omega arith; walk = runs_start s bag λ fs. omega arith }
+
+  module _ {i n : ℕ} (t : CountingAll s bag i n) where
+    pub counting_all_next : (d : Run) {k : ℕ} → Short s → i < length bag → Long s (get_or bag i d) k → CountingAll s bag (i + 1) (n + k)
+    counting_all_next d {k} short h long = record {
+      few = omega (arith, t.few, long.few, short.short);
+      walk = runs_next s bag d h t.walk λ fs gs rest reads so. so ∙ omega (arith, length-append gs rest, long.right gs reads);
+    }
+
+    pub counting_all_end : length bag ≤ i → LongIn s bag n
+    counting_all_end h = record { right = λ fs read. omega (arith, runs_end s bag h t.walk fs read) }

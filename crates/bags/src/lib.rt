@@ -5,12 +5,12 @@ ghost use Rattle.std.specs.Prelude.{◌≡◌, ◌≤◌, length};
 ghost use Rattle.logic.specs.Parts.{negated_tag};
 ghost use Rattle.bags.specs.Reading.{sign_of, left_how, right_how};
 ghost use Rattle.bags.specs.Compared.{SignOf, LeftOf, RightOf, Names, TopsAre, Compares, Once};
-ghost use Rattle.bags.specs.Runs.{Short, RunWithin, BagWithin, Counts, CountsIn, Agrees, Long, LongIn, BagsSame, OneRun, TwoRuns, ThreeRuns};
+ghost use Rattle.bags.specs.Runs.{Short, RunWithin, BagWithin, Counts, CountsIn, Agrees, Long, LongIn, BagsSame};
 
 use tree::HIGHEST_FORMULA;
 
 // How the formula at a place is read: as it stands, with an implication at the top spelled out, or negated.
-#[derive(Clone, Copy)]
+#[derive(Clone, Copy, Debug, PartialEq, Eq)]
 pub enum How {
     Plain,
     Spelled,
@@ -18,31 +18,23 @@ pub enum How {
 }
 
 // A formula: where it stands, and how it is read.
-#[derive(Clone, Copy)]
+#[derive(Clone, Copy, Debug, PartialEq, Eq)]
 pub struct Place {
     pub at: usize,
     pub how: How,
 }
 
-// The formulas from one place to another, each read so.
-#[derive(Clone, Copy)]
+// The formulas from one place to another, each read so. A multiset is a slice of runs: the formulas of them all.
+#[derive(Clone, Copy, Debug, PartialEq, Eq)]
 pub struct Run {
     pub at: usize,
     pub end: usize,
     pub how: How,
 }
 
-// A multiset: the formulas of three runs.
-#[derive(Clone, Copy)]
-pub struct Bag {
-    pub first: Run,
-    pub second: Run,
-    pub third: Run,
-}
-
 // What is known at two tags: the comparison, which gives the places after both formulas where they are the same, or that one part or two of each are still to be compared.
 #[derive(Clone, Copy)]
-pub enum Tops {
+enum Tops {
     Told(Option<(usize, usize)>),
     One,
     Two,
@@ -54,13 +46,11 @@ const NEGATED: [u8; 13] = [1, 0, 3, 2, 5, 4, 7, 6, 9, 8, 6, 12, 11];
 fn negated(tag: u8) -> u8
     ensures { result ≡ negated_tag tag }
 {
-    if tag > 12 {
-        return 0;
-    }
-    NEGATED[tag as usize]
+    NEGATED.get(usize::from(tag)).copied().unwrap_or(0)
 }
 
 // The tag of a formula read so.
+#[tactic(auto, unfolding(crate::specs::Reading::sign_of))]
 pub fn sign(tag: u8, how: How) -> u8
     ensures { result ≡ sign_of tag how }
 {
@@ -72,6 +62,7 @@ pub fn sign(tag: u8, how: How) -> u8
 }
 
 // How the left part is read, where the whole is read so. Negation leaves the left of an implication as it stands.
+#[tactic(auto, unfolding(crate::specs::Reading::left_how))]
 pub fn left_how(tag: u8, how: How) -> How
     ensures { result ≡ left_how tag how }
 {
@@ -82,6 +73,7 @@ pub fn left_how(tag: u8, how: How) -> How
     }
 }
 
+#[tactic(auto, unfolding(crate::specs::Reading::right_how))]
 pub fn right_how(how: How) -> How
     ensures { result ≡ right_how how }
 {
@@ -197,17 +189,22 @@ pub fn times(s: &[u8], run: Run, x: Place) -> usize
     n
 }
 
-fn times_in(s: &[u8], bag: Bag, x: Place) -> usize
-    requires { Short s.now × BagWithin (length s.now) bag × (x.at ≤ length s.now) }
-    ensures { CountsIn s.now bag x result }
+// How often it stands in a multiset.
+fn times_in(s: &[u8], bag: &[Run], x: Place) -> usize
+    requires { Short s.now × BagWithin (length s.now) bag.now × (x.at ≤ length s.now) }
+    ensures { CountsIn s.now bag.now x result }
 {
-    times(s, bag.first, x) + times(s, bag.second, x) + times(s, bag.third, x)
+    let mut n = 0;
+    for &run in bag {
+        n += times(s, run, x);
+    }
+    n
 }
 
 // Each formula of a run stands in both equally often.
-fn agree_on(s: &[u8], run: Run, x: Bag, y: Bag) -> bool
-    requires { Short s.now × RunWithin (length s.now) run × BagWithin (length s.now) x × BagWithin (length s.now) y }
-    ensures { Agrees s.now run x y result }
+fn agree_on(s: &[u8], run: Run, x: &[Run], y: &[Run]) -> bool
+    requires { Short s.now × RunWithin (length s.now) run × BagWithin (length s.now) x.now × BagWithin (length s.now) y.now }
+    ensures { Agrees s.now run x.now y.now result }
 {
     let mut p = run.at;
     while p < run.end {
@@ -237,67 +234,29 @@ fn count(s: &[u8], run: Run) -> usize
     n
 }
 
-fn count_in(s: &[u8], bag: Bag) -> usize
-    requires { Short s.now × BagWithin (length s.now) bag }
-    ensures { LongIn s.now bag result }
+fn count_in(s: &[u8], bag: &[Run]) -> usize
+    requires { Short s.now × BagWithin (length s.now) bag.now }
+    ensures { LongIn s.now bag.now result }
 {
-    count(s, bag.first) + count(s, bag.second) + count(s, bag.third)
+    let mut n = 0;
+    for &run in bag {
+        n += count(s, run);
+    }
+    n
 }
 
 // Two multisets have each formula equally often: as many formulas, and each formula of the one as often in the other.
-pub fn same_bag(s: &[u8], x: Bag, y: Bag) -> bool
-    requires { Short s.now × BagWithin (length s.now) x × BagWithin (length s.now) y }
-    ensures { BagsSame s.now x y result }
+pub fn same_bag(s: &[u8], x: &[Run], y: &[Run]) -> bool
+    requires { Short s.now × BagWithin (length s.now) x.now × BagWithin (length s.now) y.now }
+    ensures { BagsSame s.now x.now y.now result }
 {
     if count_in(s, x) != count_in(s, y) {
         return false;
     }
-    if !agree_on(s, x.first, x, y) {
-        return false;
+    for &run in x {
+        if !agree_on(s, run, x, y) {
+            return false;
+        }
     }
-    if !agree_on(s, x.second, x, y) {
-        return false;
-    }
-    agree_on(s, x.third, x, y)
-}
-
-fn empty() -> Run
-    ensures { (result.at ≡ 0) × (result.end ≡ 0) }
-{
-    Run {
-        at: 0,
-        end: 0,
-        how: How::Plain,
-    }
-}
-
-// The multiset of one run, of two, of three.
-pub fn one_run(first: Run) -> Bag
-    ensures { OneRun first result }
-{
-    Bag {
-        first,
-        second: empty(),
-        third: empty(),
-    }
-}
-
-pub fn two_runs(first: Run, second: Run) -> Bag
-    ensures { TwoRuns first second result }
-{
-    Bag {
-        first,
-        second,
-        third: empty(),
-    }
-}
-
-pub fn three_runs(first: Run, second: Run, third: Run) -> Bag
-    ensures { ThreeRuns first second third result }
-{
-    Bag {
-        first,
-        second,
-        third,
-    }
+    true
 }

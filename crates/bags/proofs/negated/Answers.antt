@@ -1,11 +1,10 @@
-use mathlib.Core.Path.{refl}
+use native.Mathlib.Omega.{arith}
+use Rattle.std.proofs.lemmas.Grind.{common_steps}
+use Rattle.std.proofs.lemmas.Option.{gets}
+use lib.ListN.{get_or-eq_default}
 use Rattle.logic.specs.Parts.{negated_tag}
-use Rattle.bags.specs.ReadingLaws.{negated_beyond}
 use Rattle.bags.proofs.negated.Goals as goal
-
-pub returns-then-tag-gt12 : goal.returns-then-tag-gt12
-returns-then-tag-gt12 c = negated_beyond _ c.if-tag-gt12.true
 
 pub returns : goal.returns
 unfolding negated_tag
-returns c = refl
+returns c = grind (arith, common_steps, gets, get_or-eq_default)
