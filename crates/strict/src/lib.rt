@@ -119,35 +119,21 @@ fn keeps_zone(s: &[u8], q: Node, p: Node) -> bool
     requires { Short s.now × NodeInside (length s.now) q × NodeInside (length s.now) p }
     ensures { Keeps s.now q p result }
 {
-    bags::same_bag(
-        s,
-        bags::one_run(unrestricted(p)),
-        bags::one_run(unrestricted(q)),
-    )
+    bags::same_bag(s, &[unrestricted(p)], &[unrestricted(q)])
 }
 
 fn bottom_step(s: &[u8], f: Principal, q: Node, p: Node) -> bool
     requires { Ready s.now f q p }
     ensures { StepIs s.now f q p bottom_step result }
 {
-    f.tag == 1
-        && bags::same_bag(
-            s,
-            bags::one_run(linear(q)),
-            bags::two_runs(f.whole, linear(p)),
-        )
+    f.tag == 1 && bags::same_bag(s, &[linear(q)], &[f.whole, linear(p)])
 }
 
 fn par_step(s: &[u8], f: Principal, q: Node, p: Node) -> bool
     requires { Ready s.now f q p }
     ensures { StepIs s.now f q p par_step result }
 {
-    f.tag == 7
-        && bags::same_bag(
-            s,
-            bags::two_runs(f.whole, linear(p)),
-            bags::three_runs(f.left, f.right, linear(q)),
-        )
+    f.tag == 7 && bags::same_bag(s, &[f.whole, linear(p)], &[f.left, f.right, linear(q)])
 }
 
 // One part in the place of the whole.
@@ -155,11 +141,7 @@ fn is_replaced(s: &[u8], whole: Run, part: Run, q: Node, p: Node) -> bool
     requires { Short s.now × RunWithin (length s.now) whole × RunWithin (length s.now) part × NodeInside (length s.now) q × NodeInside (length s.now) p }
     ensures { Replaced s.now whole part q p result }
 {
-    bags::same_bag(
-        s,
-        bags::two_runs(whole, linear(p)),
-        bags::two_runs(part, linear(q)),
-    )
+    bags::same_bag(s, &[whole, linear(p)], &[part, linear(q)])
 }
 
 fn with_step(s: &[u8], f: Principal, q: Node, p: Node, p2: Node) -> bool
@@ -185,8 +167,8 @@ fn tensor_step(s: &[u8], f: Principal, q: Node, p: Node, p2: Node) -> bool
         && stands_in(s, f.right, linear(p2))
         && bags::same_bag(
             s,
-            bags::three_runs(f.whole, linear(p), linear(p2)),
-            bags::three_runs(f.left, f.right, linear(q)),
+            &[f.whole, linear(p), linear(p2)],
+            &[f.left, f.right, linear(q)],
         )
 }
 
@@ -195,8 +177,8 @@ fn of_course_step(s: &[u8], f: Principal, q: Node, p: Node) -> bool
     ensures { StepIs s.now f q p of_course_step result }
 {
     f.tag == 11
-        && bags::same_bag(s, bags::one_run(linear(q)), bags::one_run(f.whole))
-        && bags::same_bag(s, bags::one_run(linear(p)), bags::one_run(f.left))
+        && bags::same_bag(s, &[linear(q)], &[f.whole])
+        && bags::same_bag(s, &[linear(p)], &[f.left])
 }
 
 fn why_not_step(s: &[u8], f: Principal, q: Node, p: Node) -> bool
@@ -204,16 +186,8 @@ fn why_not_step(s: &[u8], f: Principal, q: Node, p: Node) -> bool
     ensures { StepIs s.now f q p why_not_step result }
 {
     f.tag == 12
-        && bags::same_bag(
-            s,
-            bags::one_run(linear(q)),
-            bags::two_runs(f.whole, linear(p)),
-        )
-        && bags::same_bag(
-            s,
-            bags::one_run(unrestricted(p)),
-            bags::two_runs(plain(f.left), unrestricted(q)),
-        )
+        && bags::same_bag(s, &[linear(q)], &[f.whole, linear(p)])
+        && bags::same_bag(s, &[unrestricted(p)], &[plain(f.left), unrestricted(q)])
 }
 
 // The formula is taken out of the unrestricted zone.
@@ -221,40 +195,28 @@ fn takes_out(s: &[u8], f: Principal, q: Node, p: Node) -> bool
     requires { Ready s.now f q p }
     ensures { StepIs s.now f q p takes_out result }
 {
-    bags::same_bag(
-        s,
-        bags::one_run(unrestricted(q)),
-        bags::two_runs(plain(f.whole), unrestricted(p)),
-    )
+    bags::same_bag(s, &[unrestricted(q)], &[plain(f.whole), unrestricted(p)])
 }
 
 fn weakening_step(s: &[u8], f: Principal, q: Node, p: Node) -> bool
     requires { Ready s.now f q p }
     ensures { StepIs s.now f q p weakening_step result }
 {
-    bags::same_bag(s, bags::one_run(linear(p)), bags::one_run(linear(q))) && takes_out(s, f, q, p)
+    bags::same_bag(s, &[linear(p)], &[linear(q)]) && takes_out(s, f, q, p)
 }
 
 fn contraction_step(s: &[u8], f: Principal, q: Node, p: Node) -> bool
     requires { Ready s.now f q p }
     ensures { StepIs s.now f q p contraction_step result }
 {
-    bags::same_bag(
-        s,
-        bags::one_run(linear(p)),
-        bags::three_runs(f.whole, f.whole, linear(q)),
-    ) && takes_out(s, f, q, p)
+    bags::same_bag(s, &[linear(p)], &[f.whole, f.whole, linear(q)]) && takes_out(s, f, q, p)
 }
 
 fn dereliction_step(s: &[u8], f: Principal, q: Node, p: Node) -> bool
     requires { Ready s.now f q p }
     ensures { StepIs s.now f q p dereliction_step result }
 {
-    bags::same_bag(
-        s,
-        bags::one_run(linear(p)),
-        bags::two_runs(f.whole, linear(q)),
-    ) && takes_out(s, f, q, p)
+    bags::same_bag(s, &[linear(p)], &[f.whole, linear(q)]) && takes_out(s, f, q, p)
 }
 
 // The step is legal with this formula as the principal one, but for the unrestricted zones that it keeps.
@@ -312,11 +274,7 @@ fn cut_step(s: &[u8], q: Node, p: Node, p2: Node) -> bool
     };
     stands_in(s, cut, linear(p))
         && stands_in(s, dual, linear(p2))
-        && bags::same_bag(
-            s,
-            bags::two_runs(linear(p), linear(p2)),
-            bags::three_runs(cut, dual, linear(q)),
-        )
+        && bags::same_bag(s, &[linear(p), linear(p2)], &[cut, dual, linear(q)])
 }
 
 fn one_premise(s: &[u8], q: Node) -> bool

@@ -1,3 +1,4 @@
+use Rattle.bags.specs.RunsLaws.{three_reads, three_within, two_reads, two_within}
 use Rattle.std.proofs.Common.{refl, sym, ◌∙◌}
 use Rattle.std.proofs.lemmas.Bool.{false≢true}
 use Rattle.strict.specs.ZonesLaws.{cut_within, cut_reads, dual_reads}
@@ -14,14 +15,14 @@ stands_in-requires-then-stands_in c = (cut_within c.part_end-end.ensures c.requi
 pub same_bag-requires : goal.same_bag-requires
 same_bag-requires c = let asked = c.requires in
     let ends = c.part_end-end.ensures in
-    (asked.0, c.two_runs.ensures.within _ (c.linear-then-stands_in-2.ensures.within asked.2) (c.linear-then-stands_in-2-2.ensures.within asked.3), c.three_runs.ensures.within _ (cut_within ends asked.1.argument_inside) (cut_within ends asked.1.argument_inside) (c.linear-then-stands_in-2-3.ensures.within asked.1))
+    (asked.0, two_within (c.linear-then-stands_in-2.ensures.within asked.2) (c.linear-then-stands_in-2-2.ensures.within asked.3), three_within (cut_within ends asked.1.argument_inside) (cut_within ends asked.1.argument_inside) (c.linear-then-stands_in-2-3.ensures.within asked.1))
 
 pub returns-then-stands_in-2 : goal.returns-then-stands_in-2
 returns-then-stands_in-2 c = let ends = c.part_end-end.ensures in
     record {
       right = λ x Q P P' x_is q_is p_is p'_is.
           elim c.if-stands_in.branch [
-            | then-stands_in w ↦ cut_told x Q P P' (c.stands_in.ensures.right (cut_reads ends x_is refl) (c.linear.ensures.reads p_is)) w.if-stands_in.true (w.stands_in-then-stands_in.ensures.right (dual_reads ends x_is refl) (w.linear-then-stands_in.ensures.reads p'_is)) (sym w.value-is ∙ c.if-stands_in-2.true) (c.same_bag.ensures.right _ _ (c.two_runs.ensures.reads _ (c.linear-then-stands_in-2.ensures.reads p_is) (c.linear-then-stands_in-2-2.ensures.reads p'_is)) (c.three_runs.ensures.reads _ (cut_reads ends x_is refl) (dual_reads ends x_is refl) (c.linear-then-stands_in-2-3.ensures.reads q_is)))
+            | then-stands_in w ↦ cut_told x Q P P' (c.stands_in.ensures.right (cut_reads ends x_is refl) (c.linear.ensures.reads p_is)) w.if-stands_in.true (w.stands_in-then-stands_in.ensures.right (dual_reads ends x_is refl) (w.linear-then-stands_in.ensures.reads p'_is)) (sym w.value-is ∙ c.if-stands_in-2.true) (c.same_bag.ensures.right _ _ (two_reads (c.linear-then-stands_in-2.ensures.reads p_is) (c.linear-then-stands_in-2-2.ensures.reads p'_is)) (three_reads (cut_reads ends x_is refl) (dual_reads ends x_is refl) (c.linear-then-stands_in-2-3.ensures.reads q_is)))
             | else-stands_in w ↦ absurd (false≢true (sym w.if-stands_in.false ∙ sym w.value-is ∙ c.if-stands_in-2.true))
           ];
     }

@@ -1,3 +1,4 @@
+use Rattle.bags.specs.RunsLaws.{three_reads, three_within}
 use Rattle.std.proofs.Common.{sym, ◌∙◌, arith}
 use Rattle.std.proofs.lemmas.Bool.{false≢true}
 use borrow.Author.Tests.{eqb-true}
@@ -15,7 +16,7 @@ stands_in-requires-then-stands_in c = let asked = c.requires in
 
 pub same_bag-requires : goal.same_bag-requires
 same_bag-requires c = let asked = c.requires in
-    (asked.0.short, c.three_runs.ensures.within _ asked.0.principal_within.whole_within (c.linear-then-stands_in-2.ensures.within asked.0.premise_inside) (c.linear-then-stands_in-2-2.ensures.within asked.1), c.three_runs-then-stands_in-2.ensures.within _ asked.0.principal_within.left_within asked.0.principal_within.right_within (c.linear-then-stands_in-2-3.ensures.within asked.0.conclusion_inside))
+    (asked.0.short, three_within asked.0.principal_within.whole_within (c.linear-then-stands_in-2.ensures.within asked.0.premise_inside) (c.linear-then-stands_in-2-2.ensures.within asked.1), three_within asked.0.principal_within.left_within asked.0.principal_within.right_within (c.linear-then-stands_in-2-3.ensures.within asked.0.conclusion_inside))
 
 pub returns-then-stands_in-2 : goal.returns-then-stands_in-2
 returns-then-stands_in-2 c = record {
@@ -23,7 +24,7 @@ returns-then-stands_in-2 c = record {
       elim c.if-stands_in.branch [
         | then-stands_in w ↦ elim c.if-f-eq6.branch [
           | then-f-eq6 v ↦ let tag = v.if-f-eq6.true in
-              tensor_told x Q P P' (sym x_is.tag_is ∙ tag) (v.stands_in.ensures.right (x_is.left_reads (omega (arith, tag))) (v.linear.ensures.reads p_is)) (sym v.value-is ∙ w.if-stands_in.true) (w.stands_in-then-stands_in.ensures.right (x_is.right_reads (omega (arith, tag)) (omega (arith, tag))) (w.linear-then-stands_in.ensures.reads p'_is)) (sym w.value-is ∙ c.if-stands_in-2.true) (c.same_bag.ensures.right _ _ (c.three_runs.ensures.reads _ x_is.whole_reads (c.linear-then-stands_in-2.ensures.reads p_is) (c.linear-then-stands_in-2-2.ensures.reads p'_is)) (c.three_runs-then-stands_in-2.ensures.reads _ (x_is.left_reads (omega (arith, tag))) (x_is.right_reads (omega (arith, tag)) (omega (arith, tag))) (c.linear-then-stands_in-2-3.ensures.reads q_is)))
+              tensor_told x Q P P' (sym x_is.tag_is ∙ tag) (v.stands_in.ensures.right (x_is.left_reads (omega (arith, tag))) (v.linear.ensures.reads p_is)) (sym v.value-is ∙ w.if-stands_in.true) (w.stands_in-then-stands_in.ensures.right (x_is.right_reads (omega (arith, tag)) (omega (arith, tag))) (w.linear-then-stands_in.ensures.reads p'_is)) (sym w.value-is ∙ c.if-stands_in-2.true) (c.same_bag.ensures.right _ _ (three_reads x_is.whole_reads (c.linear-then-stands_in-2.ensures.reads p_is) (c.linear-then-stands_in-2-2.ensures.reads p'_is)) (three_reads (x_is.left_reads (omega (arith, tag))) (x_is.right_reads (omega (arith, tag)) (omega (arith, tag))) (c.linear-then-stands_in-2-3.ensures.reads q_is)))
           | else-f-eq6 v ↦ absurd (v.if-f-eq6.false (eqb-true _ _ (sym v.value-is ∙ w.if-stands_in.true)))
         ]
         | else-stands_in w ↦ absurd (false≢true (sym w.if-stands_in.false ∙ sym w.value-is ∙ c.if-stands_in-2.true))

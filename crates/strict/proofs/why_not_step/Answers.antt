@@ -1,3 +1,4 @@
+use Rattle.bags.specs.RunsLaws.{one_reads, one_within, two_reads, two_within}
 use Rattle.std.proofs.Common.{sym, ◌∙◌, arith}
 use borrow.Author.Tests.{eqb-true}
 use Rattle.strict.specs.StepsLaws.{why_not_other, why_not_no, why_not_told}
@@ -6,18 +7,18 @@ use Rattle.strict.proofs.why_not_step.Goals.{then-f-eq12, else-f-eq12}
 
 pub same_bag-requires : goal.same_bag-requires
 same_bag-requires c = let asked = c.requires in
-    (asked.short, c.one_run.ensures.within _ (c.linear.ensures.within asked.conclusion_inside), c.two_runs.ensures.within _ asked.principal_within.whole_within (c.linear-then-f-eq12.ensures.within asked.premise_inside))
+    (asked.short, one_within (c.linear.ensures.within asked.conclusion_inside), two_within asked.principal_within.whole_within (c.linear-then-f-eq12.ensures.within asked.premise_inside))
 
 pub same_bag-requires-then-same_bag : goal.same_bag-requires-then-same_bag
 same_bag-requires-then-same_bag c = let asked = c.requires in
-    (asked.short, c.one_run-then-same_bag.ensures.within _ (c.unrestricted.ensures.within asked.premise_inside), c.two_runs-then-same_bag.ensures.within _ (c.plain.ensures.within asked.principal_within.left_within) (c.unrestricted-then-same_bag.ensures.within asked.conclusion_inside))
+    (asked.short, one_within (c.unrestricted.ensures.within asked.premise_inside), two_within (c.plain.ensures.within asked.principal_within.left_within) (c.unrestricted-then-same_bag.ensures.within asked.conclusion_inside))
 
 pub returns-then-same_bag : goal.returns-then-same_bag
 returns-then-same_bag c = record {
   right = λ x Q P x_is q_is p_is.
       elim c.if-f-eq12.branch [
         | then-f-eq12 w ↦ let tag = w.if-f-eq12.true in
-            why_not_told x Q P (sym x_is.tag_is ∙ tag) (w.same_bag.ensures.right _ _ (w.one_run.ensures.reads _ (w.linear.ensures.reads q_is)) (w.two_runs.ensures.reads _ x_is.whole_reads (w.linear-then-f-eq12.ensures.reads p_is))) (sym w.value-is ∙ c.if-same_bag.true) (c.same_bag-then-same_bag.ensures.right _ _ (c.one_run-then-same_bag.ensures.reads _ (c.unrestricted.ensures.reads p_is)) (c.two_runs-then-same_bag.ensures.reads _ (c.plain.ensures.reads (x_is.part_reads (omega (arith, tag)))) (c.unrestricted-then-same_bag.ensures.reads q_is)))
+            why_not_told x Q P (sym x_is.tag_is ∙ tag) (w.same_bag.ensures.right _ _ (one_reads (w.linear.ensures.reads q_is)) (two_reads x_is.whole_reads (w.linear-then-f-eq12.ensures.reads p_is))) (sym w.value-is ∙ c.if-same_bag.true) (c.same_bag-then-same_bag.ensures.right _ _ (one_reads (c.unrestricted.ensures.reads p_is)) (two_reads (c.plain.ensures.reads (x_is.part_reads (omega (arith, tag)))) (c.unrestricted-then-same_bag.ensures.reads q_is)))
         | else-f-eq12 w ↦ absurd (w.if-f-eq12.false (eqb-true _ _ (sym w.value-is ∙ c.if-same_bag.true)))
       ];
 }
@@ -26,7 +27,7 @@ pub returns-else-same_bag : goal.returns-else-same_bag
 returns-else-same_bag c = record {
   right = λ x Q P x_is q_is p_is.
       c.if-same_bag.false ∙ elim c.if-f-eq12.branch [
-        | then-f-eq12 w ↦ why_not_no x Q P (sym x_is.tag_is ∙ w.if-f-eq12.true) (w.same_bag.ensures.right _ _ (w.one_run.ensures.reads _ (w.linear.ensures.reads q_is)) (w.two_runs.ensures.reads _ x_is.whole_reads (w.linear-then-f-eq12.ensures.reads p_is))) (sym w.value-is ∙ c.if-same_bag.false)
+        | then-f-eq12 w ↦ why_not_no x Q P (sym x_is.tag_is ∙ w.if-f-eq12.true) (w.same_bag.ensures.right _ _ (one_reads (w.linear.ensures.reads q_is)) (two_reads x_is.whole_reads (w.linear-then-f-eq12.ensures.reads p_is))) (sym w.value-is ∙ c.if-same_bag.false)
         | else-f-eq12 w ↦ why_not_other x Q P (λ e. w.if-f-eq12.false (x_is.tag_is ∙ e))
       ];
 }
