@@ -10,34 +10,26 @@ ghost use Rattle.std.specs.Prelude.{◌≡◌, length};
 use std::io;
 use std::io::Read;
 use stored::{MOST_RECORDS, Tally};
-use tree::Measured;
-use verdict::{Verdict, same, told};
+use verdict::{Verdict, told};
 
 // The verdict that the list has next.
 fn said(input: &mut impl Read) -> Verdict {
     Verdict {
         answer: stored::byte(input),
         rule: stored::byte(input),
-        node: stored::number(input),
-        wrappers: stored::number(input),
-        expected: stored::byte(input),
-        got: stored::byte(input),
+        node: usize::from(stored::number(input)),
+        wrappers: usize::from(stored::number(input)),
+        expected: usize::from(stored::byte(input)),
+        got: usize::from(stored::byte(input)),
     }
-}
-
-// The tree's depth is this.
-fn is_deep(s: &[u8], depth: usize) -> bool {
-    let Measured::Depth(d) = tree::depth(s) else {
-        return false;
-    };
-    d == depth
 }
 
 // The tree's depth and the verdicts on it are the list's.
 fn agrees(input: &mut impl Read, s: &[u8]) -> bool {
-    let measures = is_deep(s, stored::number(input));
-    let verifies = same(told(verify::verify(s)), said(input));
-    let is_strict = same(told(verify::verify_strict(s)), said(input));
+    let depth = usize::from(stored::number(input));
+    let measures = tree::depth(s) == Ok(depth);
+    let verifies = told(verify::verify(s)) == said(input);
+    let is_strict = told(verify::verify_strict(s)) == said(input);
     measures && verifies && is_strict
 }
 
@@ -53,27 +45,27 @@ fn replay(input: &mut impl Read) -> Tally {
     for _ in 0..MOST_RECORDS {
         let mut buf = message();
         let length = stored::long_number(input);
-        let n = stored::bytes(input, &mut buf, length);
-        if n == 0 {
+        let s = stored::bytes(input, &mut buf, length as usize);
+        if s.is_empty() {
             return tally;
         }
-        tally = tally.with(agrees(input, &buf[..n]));
+        tally = tally.with(agrees(input, s));
     }
     tally
 }
 
 // What is refused in reading, and what in checking.
 fn print_short(rt: &impl Print) -> io::Result<()> {
-    settled::frames().print(rt, b" settled answers at the frame")?;
-    settled::nodes().print(rt, b" settled answers at a node")?;
-    settled::verdicts().print(rt, b" settled verdicts")?;
-    settled::steps().print(rt, b" settled steps")
+    settled::frames().print(rt, "settled answers at the frame")?;
+    settled::nodes().print(rt, "settled answers at a node")?;
+    settled::verdicts().print(rt, "settled verdicts")?;
+    settled::steps().print(rt, "settled steps")
 }
 
 fn main(rt: HostRuntime) -> io::Result<()> {
-    replay(&mut rt.reader()).print(&rt, b" trees")?;
+    replay(&mut rt.reader()).print(&rt, "trees")?;
     print_short(&rt)?;
-    settled::widths().print(&rt, b" settled answers at wide sequents")?;
-    settled::chains().print(&rt, b" settled answers at high trees")?;
-    settled::heights().print(&rt, b" settled answers at high formulas")
+    settled::widths().print(&rt, "settled answers at wide sequents")?;
+    settled::chains().print(&rt, "settled answers at high trees")?;
+    settled::heights().print(&rt, "settled answers at high formulas")
 }

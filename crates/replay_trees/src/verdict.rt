@@ -1,12 +1,11 @@
 // A verdict in document 01's numbers.
-use formula::Refusal;
-use verify::Verified;
+use verify::Rejected;
 
 // The answer, and what it tells of the node that fails. What an answer does not tell is 0.
-#[derive(Clone, Copy)]
+#[derive(Clone, Copy, Debug, PartialEq, Eq)]
 pub struct Verdict {
-    pub answer: usize,
-    pub rule: usize,
+    pub answer: u8,
+    pub rule: u8,
     pub node: usize,
     pub wrappers: usize,
     pub expected: usize,
@@ -14,23 +13,12 @@ pub struct Verdict {
 }
 
 // An answer that tells of no node.
-pub fn bare(answer: usize) -> Verdict {
-    Verdict {
-        answer,
-        rule: 0,
-        node: 0,
-        wrappers: 0,
-        expected: 0,
-        got: 0,
-    }
-}
-
-pub fn number(why: Refusal) -> usize {
-    formula::number(why) as usize
+pub fn bare(answer: u8) -> Verdict {
+    failed(answer, 0, 0, 0)
 }
 
 // 13 or 15, of a node.
-pub fn failed(answer: usize, rule: usize, node: usize, wrappers: usize) -> Verdict {
+pub fn failed(answer: u8, rule: u8, node: usize, wrappers: usize) -> Verdict {
     Verdict {
         answer,
         rule,
@@ -41,42 +29,39 @@ pub fn failed(answer: usize, rule: usize, node: usize, wrappers: usize) -> Verdi
     }
 }
 
-pub fn told(v: Verified) -> Verdict {
+pub fn told(v: Result<(), Rejected>) -> Verdict {
     match v {
-        Verified::Accepted => bare(0),
-        Verified::Refused(why) => bare(number(why)),
-        Verified::Invalid {
-            rule,
-            node,
-            wrappers,
-        } => failed(13, rule as usize, node, wrappers),
-        Verified::WrongCount {
-            rule,
-            node,
-            wrappers,
-            expected,
-            got,
-        } => Verdict {
+        Ok(()) => bare(0),
+        Err(Rejected::Refused(why)) => bare(u8::from(why)),
+        Err(
+            Rejected::Invalid {
+                rule,
+                node,
+                wrappers,
+            },
+        ) => failed(13, rule, node, wrappers),
+        Err(
+            Rejected::WrongCount {
+                rule,
+                node,
+                wrappers,
+                expected,
+                got,
+            },
+        ) => Verdict {
             answer: 14,
-            rule: rule as usize,
+            rule,
             node,
             wrappers,
             expected,
             got,
         },
-        Verified::Mismatch {
-            rule,
-            node,
-            wrappers,
-        } => failed(15, rule as usize, node, wrappers),
+        Err(
+            Rejected::Mismatch {
+                rule,
+                node,
+                wrappers,
+            },
+        ) => failed(15, rule, node, wrappers),
     }
-}
-
-pub fn same(a: Verdict, b: Verdict) -> bool {
-    a.answer == b.answer
-        && a.rule == b.rule
-        && a.node == b.node
-        && a.wrappers == b.wrappers
-        && a.expected == b.expected
-        && a.got == b.got
 }

@@ -11,14 +11,10 @@ use std::io::Read;
 pub const MOST_RECORDS: usize = 1000000;
 
 // How many were compared, and how many of them differ.
-#[derive(Clone, Copy)]
+#[derive(Clone, Copy, Debug, PartialEq, Eq)]
 pub struct Tally {
     pub compared: u64,
     pub differing: u64,
-}
-
-fn one_more(n: u64) -> u64 {
-    if n < u64::MAX { n + 1 } else { n }
 }
 
 impl Tally {
@@ -30,27 +26,15 @@ impl Tally {
     }
 
     pub fn with(self, is_same: bool) -> Self {
-        let compared = one_more(self.compared);
-        let differing = self.differing;
-        if is_same {
-            return Self {
-                compared,
-                differing,
-            };
-        }
         Self {
-            compared,
-            differing: one_more(differing),
+            compared: self.compared.saturating_add(1),
+            differing: self.differing.saturating_add(u64::from(!is_same)),
         }
     }
 
     // As `3142 formulas, 0 differing`.
-    pub fn print(self, rt: &impl Print, what: &[u8]) -> io::Result<()> {
-        let compared = self.compared;
-        let differing = self.differing;
-        print!(rt; "{compared}")?;
-        rt.write_all(what)?;
-        println!(rt; ", {differing} differing")
+    pub fn print(self, rt: &impl Print, what: &str) -> io::Result<()> {
+        println!(rt; "{} {what}, {} differing", self.compared, self.differing)
     }
 }
 
@@ -59,12 +43,6 @@ pub fn large_buffer() -> [u8; 65536]
     ensures { 65536 ≡ length result }
 {
     [0; 65536]
-}
-
-fn wide(b: u8) -> usize
-    ensures { result < 256 }
-{
-    b as usize
 }
 
 // The input's next bytes, to the front of `buf`, and how many there were: fewer than `buf` holds only where the input ends. A read that fails counts as the end.
@@ -83,51 +61,36 @@ fn read_full(input: &mut impl Read, buf: &mut [u8]) -> usize
 }
 
 // The next byte, and the next numbers of two and of four bytes. Past the end of the list they are 0.
-pub fn byte(input: &mut impl Read) -> usize
-    ensures { result < 256 }
-{
+pub fn byte(input: &mut impl Read) -> u8 {
     let mut b = [0u8; 1];
     read_full(input, &mut b);
-    wide(b[0])
+    b[0]
 }
 
-pub fn number(input: &mut impl Read) -> usize
-    ensures { result < 65536 }
-{
-    let high = byte(input);
-    let low = byte(input);
-    high * 256 + low
+pub fn number(input: &mut impl Read) -> u16 {
+    u16::from_be_bytes([byte(input), byte(input)])
 }
 
-pub fn long_number(input: &mut impl Read) -> usize {
-    let high = number(input);
-    let low = number(input);
-    high * 65536 + low
+pub fn long_number(input: &mut impl Read) -> u32 {
+    u32::from_be_bytes([byte(input), byte(input), byte(input), byte(input)])
 }
 
-// The next so many bytes, to the front of `buf`, and how many there were. More than `buf` holds are none.
-pub fn bytes(input: &mut impl Read, buf: &mut [u8], n: usize) -> usize
-    ensures { IsPrefixLen result buf.new }
-{
+// The next so many bytes, at the front of `buf`, or as many as there are. More than `buf` holds are none.
+pub fn bytes<'a>(input: &mut impl Read, buf: &'a mut [u8], n: usize) -> &'a [u8] {
     if buf.len() < n {
-        return 0;
+        return &[];
     }
-    read_full(input, &mut buf[..n])
+    let done = read_full(input, &mut buf[..n]);
+    &buf[..done]
 }
 
-// A number of the bytes of `buf`: n, or all of them where there are fewer.
-pub fn at_most(n: usize, buf: &[u8]) -> usize
-    ensures in_bounds { IsPrefixLen result buf.now }
-    ensures value { result ≡ min n (length buf.now) }
-{
-    if n < buf.len() { n } else { buf.len() }
+// The next bytes behind their number of two bytes, as long as it says.
+pub fn item<'a>(input: &mut impl Read, buf: &'a mut [u8]) -> &'a [u8] {
+    let n = number(input);
+    bytes(input, buf, usize::from(n))
 }
 
 // The first n bytes of `buf` are `bytes`.
 pub fn starts(buf: &[u8], n: usize, bytes: &[u8]) -> bool {
-    if n != bytes.len() {
-        return false;
-    }
-    let n = at_most(n, buf);
-    &buf[..n] == bytes
+    n == bytes.len() && buf.starts_with(bytes)
 }
