@@ -24,7 +24,7 @@ fn two(s: &[u8], at: usize) -> usize
     requires { at + 1 < length s.now }
     ensures { (result ≡ get_or s.now at 0 * 256 + get_or s.now (at + 1) 0) × (result < 65536) }
 {
-    s[at] as usize * 256 + s[at + 1] as usize
+    usize::from(u16::from_be_bytes([s[at], s[at + 1]]))
 }
 
 // What stands at a place where a formula stands.
