@@ -4,9 +4,6 @@ use Rattle.least.proofs.fits_at.Goals as goal
 pub returns-then-not-may_take : goal.returns-then-not-may_take
 returns-then-not-may_take c = fits_untaken c.may_take.ensures c.if-not-may_take.true
 
-pub is_crowded-requires : goal.is_crowded-requires
-is_crowded-requires c = c.requires.0.fits
-
 pub returns-then-is_crowded : goal.returns-then-is_crowded
 returns-then-is_crowded c = fits_crowded c.may_take.ensures c.is_crowded.ensures c.if-not-may_take.false c.if-is_crowded.true
 

@@ -13,9 +13,6 @@ returns-then-n-eq0 c = follows_none c.requires.0 c.node_word-w.ensures c.premise
 pub first_premise-p-requires : goal.first_premise-p-requires
 first_premise-p-requires c = (word_first c.requires.0 c.node_word-w.ensures c.premises-n.ensures c.if-n-eq0.false).0
 
-pub is_shown-requires : goal.is_shown-requires
-is_shown-requires c = (c.first_premise-p.ensures.sound, c.requires.1)
-
 pub returns-then-not-is_shown : goal.returns-then-not-is_shown
 returns-then-not-is_shown c = follows_apart c.requires.0 c.node_word-w.ensures c.premises-n.ensures c.if-n-eq0.false c.first_premise-p.ensures c.is_shown.ensures c.if-not-is_shown.true
 
@@ -24,9 +21,6 @@ returns-then-n-eq1 c = follows_one c.requires.0 c.node_word-w.ensures c.premises
 
 pub second_premise-q-requires : goal.second_premise-q-requires
 second_premise-q-requires c = (word_second c.requires.0 c.node_word-w.ensures c.premises-n.ensures c.if-n-eq0.false c.if-n-eq1.false).0
-
-pub is_shown-requires-2 : goal.is_shown-requires-2
-is_shown-requires-2 c = (c.second_premise-q.ensures.sound, c.after_tree.ensures.inside)
 
 pub returns : goal.returns
 returns c = follows_two c.requires.0 c.node_word-w.ensures c.premises-n.ensures c.if-n-eq0.false c.first_premise-p.ensures c.is_shown.ensures c.if-not-is_shown.false c.if-n-eq1.false c.after_tree.ensures c.second_premise-q.ensures c.is_shown-2.ensures

@@ -1,14 +1,8 @@
 use Rattle.least.specs.FindingLaws.{tried_start, tried_more, place_found, place_nowhere}
 use Rattle.least.proofs.least_place.Goals as goal
 
-pub count-i-end-requires : goal.count-i-end-requires
-count-i-end-requires c = c.requires.sound.fits
-
 pub loop-i-init : goal.loop-i-init
 loop-i-init c = tried_start
-
-pub fits_at-requires : goal.fits_at-requires
-fits_at-requires c = (c.requires.sound, c.requires.inside)
 
 pub returns-then-fits_at : goal.returns-then-fits_at
 returns-then-fits_at c = place_found c.requires c.loop-i.invariant c.fits_at.ensures c.if-fits_at.true

@@ -1,8 +1,22 @@
 use mathlib.Core.Path.{sym, ◌∙◌}
+use native.Mathlib.Omega.{arith}
 use borrow.Author.Tests.{eqb-true}
-use Rattle.split.specs.SplittingLaws.{no_tensor, left_tested, both_tested}
+use Rattle.split.specs.SplittingLaws.{place_low, no_tensor, left_compares, left_tested, right_compares, both_tested}
 use Rattle.split.proofs.is_tensor_of.Goals as goal
 use Rattle.split.proofs.is_tensor_of.Goals.{then-field-eq-TENSOR, else-field-eq-TENSOR}
+
+pub matches-requires : goal.matches-requires
+matches-requires c = left_compares c.requires c.field.ensures c.if-field-eq-TENSOR.true c.field-then-field-eq-TENSOR.ensures
+
+pub field-requires-then-is_some : goal.field-requires-then-is_some
+field-requires-then-is_some c = ((omega (arith, place_low c.requires, c.requires.sound.wf.few), omega arith), c.requires.sound.wf.sized)
+
+pub matches-requires-then-is_some : goal.matches-requires-then-is_some
+matches-requires-then-is_some c =
+    elim c.if-field-eq-TENSOR.branch [
+      | then-field-eq-TENSOR w ↦ right_compares c.requires c.field.ensures w.if-field-eq-TENSOR.true c.field-then-is_some.ensures
+      | else-field-eq-TENSOR w ↦ absurd (w.if-field-eq-TENSOR.false (eqb-true c.field.result 6 (sym w.value-is ∙ c.if-is_some.true)))
+    ]
 
 pub returns-then-is_some : goal.returns-then-is_some
 returns-then-is_some c =
