@@ -254,6 +254,9 @@ module _ {s : List ℕ} {f : Principal} {q p p' : Node} where
             no_principal rule x Q P P' (subst (NoneOf (Unit {0}) with_principal) rule_is h) ∙ ap (λ (n : ℕ). step_by n x Q P P') (sym rule_is);
       }
 
+  pub step_past : 14 < q.rule → StepAt s f q p p' false
+  step_past h = step_none (((((((((((tt, λ e. omega arith), λ e. omega arith), λ e. omega arith), λ e. omega arith), λ e. omega arith), λ e. omega arith), λ e. omega arith), λ e. omega arith), λ e. omega arith), λ e. omega arith), λ e. omega arith)
+
 -- ---- a principal formula looked for in a zone
 
 module _ (s : List ℕ) (end : ℕ) (q p p' : Node) where

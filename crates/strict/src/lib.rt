@@ -10,6 +10,7 @@ ghost use Rattle.strict.specs.Steps.{bottom_step, par_step, with_step, tensor_st
 ghost use Rattle.strict.specs.Steps.{Ready, Keeps, Replaced, StepIs, PartStepIs, TwoStepsAre, StepAt, SomeStep, CutIs, OnePremise, TwoPremises, LegalStep};
 
 use bags::{How, Place, Run};
+use rule::Rule;
 use tree::{Node, Span};
 
 // The linear zone, as strict mode reads it, and the unrestricted zone.
@@ -224,18 +225,21 @@ fn step_at(s: &[u8], f: Principal, q: Node, p: Node, p2: Node) -> bool
     requires { Ready s.now f q p × NodeInside (length s.now) p2 }
     ensures { StepAt s.now f q p p2 result }
 {
-    match q.rule {
-        3 => bottom_step(s, f, q, p),
-        4 => tensor_step(s, f, q, p, p2),
-        5 => par_step(s, f, q, p),
-        7 => with_step(s, f, q, p, p2),
-        8 => plus_step(s, f, f.left, q, p),
-        9 => plus_step(s, f, f.right, q, p),
-        10 => of_course_step(s, f, q, p),
-        11 => why_not_step(s, f, q, p),
-        12 => weakening_step(s, f, q, p),
-        13 => contraction_step(s, f, q, p),
-        14 => dereliction_step(s, f, q, p),
+    let Ok(rule) = Rule::try_from(q.rule) else {
+        return false;
+    };
+    match rule {
+        Rule::BottomIntro => bottom_step(s, f, q, p),
+        Rule::TensorIntro => tensor_step(s, f, q, p, p2),
+        Rule::ParIntro => par_step(s, f, q, p),
+        Rule::WithIntro => with_step(s, f, q, p, p2),
+        Rule::PlusIntroLeft => plus_step(s, f, f.left, q, p),
+        Rule::PlusIntroRight => plus_step(s, f, f.right, q, p),
+        Rule::OfCourseIntro => of_course_step(s, f, q, p),
+        Rule::WhyNotIntro => why_not_step(s, f, q, p),
+        Rule::Weakening => weakening_step(s, f, q, p),
+        Rule::Contraction => contraction_step(s, f, q, p),
+        Rule::Dereliction => dereliction_step(s, f, q, p),
         _ => false,
     }
 }
@@ -282,10 +286,11 @@ fn one_premise(s: &[u8], q: Node) -> bool
     ensures { OnePremise s.now q result }
 {
     let p = tree::node_at(s, q.next);
-    if q.rule > 11 {
+    let why_not = u8::from(Rule::WhyNotIntro);
+    if q.rule > why_not {
         return some_step(s, q.unrestricted, q, p, p);
     }
-    (q.rule == 11 || keeps_zone(s, q, p)) && some_step(s, q.linear, q, p, p)
+    (q.rule == why_not || keeps_zone(s, q, p)) && some_step(s, q.linear, q, p, p)
 }
 
 fn two_premises(s: &[u8], q: Node) -> bool
@@ -297,7 +302,7 @@ fn two_premises(s: &[u8], q: Node) -> bool
     if !keeps_zone(s, q, p) || !keeps_zone(s, q, p2) {
         return false;
     }
-    if q.rule == 1 {
+    if q.rule == u8::from(Rule::Cut) {
         cut_step(s, q, p, p2)
     } else {
         some_step(s, q.linear, q, p, p2)
@@ -309,7 +314,7 @@ pub fn legal(s: &[u8], q: Node) -> bool
     requires { Short s.now × NodeInside (length s.now) q }
     ensures { LegalStep s.now q result }
 {
-    if q.rule > 14 {
+    if q.rule > u8::from(Rule::Dereliction) {
         return false;
     }
     match q.premises {
