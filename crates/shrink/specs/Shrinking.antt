@@ -1,5 +1,6 @@
 -- What shortening a tree in bytes asks and answers. Any bytes may stand in the message; a contract speaks of the tree that stands at the place. Assumes nothing: these are definitions.
-use Rattle.std.specs.Prelude.{◌≡◌, Bool, true, false, List, [], ◌∷◌, ℕ, ◌+◌, ◌*◌, ◌-◌, ◌≤◌, eqb, length}
+use Rattle.std.specs.Prelude as std
+use Rattle.std.specs.Prelude.{◌≡◌, Ok, Err, Bool, true, false, List, [], ◌∷◌, ℕ, ◌+◌, ◌*◌, ◌-◌, ◌≤◌, eqb, length}
 use Rattle.std.proofs.lemmas.List.Edits.{sets}
 use Rattle.logic.specs.Formula.{Formula}
 use Rattle.logic.specs.Answer.{Refusal, wrong_number, wrong_length, wrong_tag, too_high, too_many, held_full, budget_spent, failures_full, output_short, wrong_setting, wrong_memory}
@@ -18,7 +19,8 @@ use Rattle.short.specs.Shortening.{least, shorten_all}
 use Rattle.short_bytes.specs.Write.{four_bytes, write_short_node}
 use Rattle.step.specs.Taking.{sequent}
 use Rattle.shrink.specs.declared.Shrunk.{Shrunk}
-use Rattle.shrink.specs.declared.Shrunk.TheVariants.{Whole, Full, Mismatch}
+use Rattle.shrink.specs.declared.Stop.{Stop}
+use Rattle.shrink.specs.declared.Stop.TheVariants.{Full, Mismatch}
 
 -- the limits in force: document 01's. No visit is counted here
 abbrev pub limits : Limits
@@ -48,15 +50,22 @@ pub record Shrinking (m s : List ℕ) (at : ℕ) (z : Zones) (to : ℕ) : Type 0
   pub short : length s ≤ 65538
   pub room : to + 10 * (length s - at) ≤ 700000
 
+-- what the code answers
+abbrev pub Shrink : Type 0
+Shrink = std.Result Shrunk Stop
+
+-- a part of the tree, with the places after it
+abbrev pub Whole : (next to : ℕ) → Shrink
+Whole next to = Ok record { next = next; to = to }
+
 -- the places after what was shortened
-abbrev pub Within : (len at to : ℕ) → Shrunk → Type 0
-Within len at to (Whole next to') = ((at ≤ next) × (next ≤ len)) × ((to ≤ to') × (to' + 10 * (len - next) ≤ to + 10 * (len - at) + 2))
-Within len at to Full = Unit {0}
-Within len at to Mismatch = Unit {0}
+abbrev pub Within : (len at to : ℕ) → Shrink → Type 0
+Within len at to (Ok g) = ((at ≤ g.next) × (g.next ≤ len)) × ((to ≤ g.to) × (g.to + 10 * (len - g.next) ≤ to + 10 * (len - at) + 2))
+Within len at to (Err k) = Unit {0}
 
 -- the refusals of `shorten`, as the code answers them
-abbrev pub Refuses : Refusal → Shrunk → Type 0
-Refuses held_full r = r ≡ Full
+abbrev pub Refuses : Refusal → Shrink → Type 0
+Refuses held_full r = r ≡ Err Full
 Refuses too_many r = ⊥
 Refuses wrong_number r = ⊥
 Refuses wrong_length r = ⊥
@@ -69,16 +78,16 @@ Refuses wrong_setting r = ⊥
 Refuses wrong_memory r = ⊥
 
 -- the code's answer to a result of `shorten`, and the output after it; `next` is the place after the tree
-pub record WholeAs (t : Short) (next : ℕ) (out : List ℕ) (to : ℕ) (r : Shrunk) (out' : List ℕ) : Type 0 where
+pub record WholeAs (t : Short) (next : ℕ) (out : List ℕ) (to : ℕ) (r : Shrink) (out' : List ℕ) : Type 0 where
   pub answer : r ≡ Whole next (to + length (write_short_node t))
   pub put : Put (write_short_node t) out to out'
 
-abbrev pub Told : Result Short → (next : ℕ) → List ℕ → ℕ → Shrunk → List ℕ → Type 0
+abbrev pub Told : Result Short → (next : ℕ) → List ℕ → ℕ → Shrink → List ℕ → Type 0
 Told (made t) next out to r out' = WholeAs t next out to r out'
-Told mismatch next out to r out' = r ≡ Mismatch
+Told mismatch next out to r out' = r ≡ Err Mismatch
 Told (refused k) next out to r out' = Refuses k r
 
-pub record ShrunkAs (x : Result Short × List Formula) (next : ℕ) (out : List ℕ) (to : ℕ) (r : Shrunk) (fs : List Formula) (out' : List ℕ) : Type 0 where
+pub record ShrunkAs (x : Result Short × List Formula) (next : ℕ) (out : List ℕ) (to : ℕ) (r : Shrink) (fs : List Formula) (out' : List ℕ) : Type 0 where
   pub told : Told x.0 next out to r out'
   pub held : fs ≡ x.1
 
@@ -89,7 +98,7 @@ shorten_spelt (node r c ts) =
     shorten_all limits ts (premises_of r im.0 im.1 c) and_then λ ss.
     answer (made (short r im.0 im.1 ss))
 
-pub record Shrinks (m s : List ℕ) (at : ℕ) (z : Zones) (out : List ℕ) (to : ℕ) (r : Shrunk) (m' out' : List ℕ) : Type 0 where
+pub record Shrinks (m s : List ℕ) (at : ℕ) (z : Zones) (out : List ℕ) (to : ℕ) (r : Shrink) (m' out' : List ℕ) : Type 0 where
   pub within : Within (length s) at to r
   pub wf : Wf m'
   pub grew : Extends m m'

@@ -1,6 +1,6 @@
 -- Laws of shortening in bytes, one for each way out of each function; and that a short tree is no longer than its tree. Assumes nothing.
 use Rattle.std.proofs.Math.Path.{◌≡◌}
-use Rattle.std.specs.Prelude.{refl, Bool, true, false, ℕ, suc, ◌+◌, ◌*◌, ◌-◌, ◌≤◌, ◌<◌, eqb, get_or, set}
+use Rattle.std.specs.Prelude.{Option, None, Some, Ok, Err, refl, Bool, true, false, ℕ, suc, ◌+◌, ◌*◌, ◌-◌, ◌≤◌, ◌<◌, eqb, get_or, set}
 use Rattle.std.proofs.Common.{sym, ap, ap₂, subst, ◌∙◌, add-one, arith, length-set, eq-eqb, ne_eqb}
 use Rattle.std.proofs.lemmas.Bool.{false≢true}
 use mathlib.Core.List.{List, [], ◌∷◌, ◌++◌, map, append-nil}
@@ -66,13 +66,10 @@ use Rattle.short_read.specs.Reading.{node_bytes}
 use Rattle.short_bytes.specs.Write.{four_bytes, has_mask, write_mask, write_short_node, write_short_nodes}
 use Rattle.step.specs.Taking.{sequent, if_full, SpeltTo}
 use Rattle.step.specs.TakingLaws.{taken_named, taken_place, taken_rule, sequent_same, taken_grows}
-use Rattle.step.specs.declared.Spelt.{Spelt}
-use Rattle.split.specs.declared.Least.{Least}
-use Rattle.split.specs.declared.Least.TheVariants.{At, Nowhere}
 use Rattle.least.specs.Finding.{NodeInside, LeastFor}
 use Rattle.least.specs.FindingLaws.{premises_follow, word_follow, word_none, word_first, word_second, word_two}
-use Rattle.shrink.specs.declared.Shrunk.{Shrunk}
-use Rattle.shrink.specs.declared.Shrunk.TheVariants.{Whole, Full, Mismatch}
+use Rattle.shrink.specs.declared.Stop.{Stop}
+use Rattle.shrink.specs.declared.Stop.TheVariants.{Full, Mismatch}
 use Rattle.shrink.specs.Shrinking.{
   limits,
   mask_bytes,
@@ -82,6 +79,8 @@ use Rattle.shrink.specs.Shrinking.{
   Shrinking,
   Within,
   Refuses,
+  Shrink,
+  Whole,
   WholeAs,
   Told,
   ShrunkAs,
@@ -255,6 +254,15 @@ pair_bytes : (s s' : Short) → write_short_nodes (s ▸ s' ▸ □) ≡ write_s
 unfolding write_short_nodes
 pair_bytes s s' = ap (λ (bs : List ℕ). write_short_node s ++ bs) (append-nil (write_short_node s'))
 
+-- the places of an answer
+abbrev place_of : Shrink → ℕ
+place_of (Ok g) = g.next
+place_of (Err k) = 0
+
+abbrev to_of : Shrink → ℕ
+to_of (Ok g) = g.to
+to_of (Err k) = 0
+
 never_whole : (k : Refusal) (next to : ℕ) → Refuses k (Whole next to) → ⊥
 never_whole held_full next to e = let z : ◌≡◌ {A = ℕ} 0 1 = cc in omega arith
 never_whole too_many next to e = e
@@ -281,7 +289,7 @@ module _ (t : Tree) (ts : Trees) (q : Sequent) (qs : List Sequent) (fs : List Fo
   all_both s hs e x gs k = all_first (made s) hs e ∙ and_then_from (shorten_all limits ts qs) _ hs x gs k
 
   -- it is not made: nor are all
-  all_failed : {mid next : ℕ} {out : List ℕ} {to : ℕ} {r : Shrunk} {gs : List Formula} {out' out'' : List ℕ}
+  all_failed : {mid next : ℕ} {out : List ℕ} {to : ℕ} {r : Shrink} {gs : List Formula} {out' out'' : List ℕ}
       → ((next to' : ℕ) → r ≡ Whole next to' → ⊥)
       → ShrunkAs (shorten limits t q fs) mid out to r gs out'
       → AllAs (shorten_all limits (t ▹ ts) (q ∷ qs) fs) next out to r gs out''
@@ -294,7 +302,7 @@ module _ (t : Tree) (ts : Trees) (q : Sequent) (qs : List Sequent) (fs : List Fo
       go (refused f) hs e w k = rw (all_first (refused f) hs e) record { told = w; held = k }
 
 -- one alone
-all_one : (t : Tree) (q : Sequent) (fs : List Formula) {next : ℕ} {out : List ℕ} {to : ℕ} {r : Shrunk} {gs : List Formula} {out' : List ℕ}
+all_one : (t : Tree) (q : Sequent) (fs : List Formula) {next : ℕ} {out : List ℕ} {to : ℕ} {r : Shrink} {gs : List Formula} {out' : List ℕ}
     → ShrunkAs (shorten limits t q fs) next out to r gs out'
     → AllAs (shorten_all limits (t ▹ ∅) (q ∷ []) fs) next out to r gs out'
 all_one t q fs {next} {out} {to} {r} {gs} {out'} a = go (shorten limits t q fs).0 (shorten limits t q fs).1 refl a.told a.held
@@ -310,7 +318,7 @@ all_one t q fs {next} {out} {to} {r} {gs} {out'} a = go (shorten limits t q fs).
     go (refused f) hs e w k = rw (all_first t ∅ q [] fs (refused f) hs e) record { told = w; held = k }
 
 -- two
-all_two : (t t' : Tree) (q q' : Sequent) (fs : List Formula) {mid next : ℕ} {out : List ℕ} {to to₁ : ℕ} {r₁ r : Shrunk} {hs gs : List Formula} {out₁ out₂ : List ℕ}
+all_two : (t t' : Tree) (q q' : Sequent) (fs : List Formula) {mid next : ℕ} {out : List ℕ} {to to₁ : ℕ} {r₁ r : Shrink} {hs gs : List Formula} {out₁ out₂ : List ℕ}
     → r₁ ≡ Whole mid to₁ → {place : ℕ}
     → ShrunkAs (shorten limits t q fs) place out to r₁ hs out₁
     → ShrunkAs (shorten limits t' q' hs) next out₁ to₁ r gs out₂
@@ -322,7 +330,7 @@ all_two t t' q q' fs {mid} {next} {out} {to} {to₁} {r₁} {r} {hs} {gs} {out�
         → shorten limits t' q' hs ≡ (x, fs')
         → Told x next out₁ to₁ r out₂ → gs ≡ fs' → AllAs (shorten_all limits (t ▹ t' ▹ ∅) (q ∷ q' ∷ []) fs) next out to r gs out₂
     second s e w (made s') fs' e' w' k =
-        let to_is : to₁ ≡ to + length (write_short_node s) = cc w.answer in
+        let to_is : to₁ ≡ to + length (write_short_node s) = ap to_of (sym whole ∙ w.answer) in
         rw (all_both t (t' ▹ ∅) q (q' ∷ []) fs s hs e (made (s' ▸ □)) fs' (all_both t' ∅ q' [] hs s' fs' e' (made □) fs' (all_nothing fs'))) record {
           told = record {
             answer = w'.answer ∙ ap (Whole next) (rw (pair_bytes s s') (omega (arith, length-append (write_short_node s) (write_short_node s'))));
@@ -344,32 +352,35 @@ all_two t t' q q' fs {mid} {next} {out} {to} {to₁} {r₁} {r} {hs} {gs} {out�
 -- ---- premises that stand in the message
 
 -- a premise of the step, spelled out and shortened
-module _ {m : List ℕ} {q : Sequent} {y : Zones} {x : Spelt} {m₁ : List ℕ} (MadeSo : Means m q y) (spelled : SpeltTo m y x m₁) where
-  premise_spells : {b : Bool} → x.full ≡ b → spelt limits.held q (view m) ≡ (if_full b, view m₁)
+module _ {m : List ℕ} {q : Sequent} {y : Zones} {x : Option Zones} {m₁ : List ℕ} (MadeSo : Means m q y) (spelled : SpeltTo m y x m₁) where
+  premise_spells : {r : Option Zones} → x ≡ r → spelt limits.held q (view m) ≡ (if_full r, view m₁)
   premise_spells h =
-      ap (λ (p : Sequent). spelt limits.held p (view m)) (sym MadeSo.means) ∙ spelled.made_is ∙ ap (λ (b : Bool). (if_full b, view m₁)) h
+      ap (λ (p : Sequent). spelt limits.held p (view m)) (sym MadeSo.means) ∙ spelled.made_is ∙ ap (λ (r : Option Zones). (if_full r, view m₁)) h
 
-  premise_full : x.full ≡ true → (t : Tree) {next : ℕ} {out : List ℕ} {to : ℕ} {out' : List ℕ}
-      → ShrunkAs (shorten limits t q (view m)) next out to Full (view m₁) out'
+  spelled_means : {v : Zones} → x ≡ Some v → Means m₁ (concluded (sequent m y)) v
+  spelled_means h = rw h at spelled.means
+
+  premise_full : x ≡ None → (t : Tree) {next : ℕ} {out : List ℕ} {to : ℕ} {out' : List ℕ}
+      → ShrunkAs (shorten limits t q (view m)) next out to (Err Full) (view m₁) out'
   premise_full h t =
       rw (shorten_full t q (view m) (view m₁) (premise_spells h)) record { told = refl; held = refl }
 
-  premise_as : {s : List ℕ} {at : ℕ} {out : List ℕ} {to : ℕ} {r : Shrunk} {m₂ out' : List ℕ} → x.full ≡ false
-      → Shrinks m₁ s at x.zones out to r m₂ out'
+  premise_as : {s : List ℕ} {at : ℕ} {out : List ℕ} {to : ℕ} {r : Shrink} {m₂ out' : List ℕ} {v : Zones} → x ≡ Some v
+      → Shrinks m₁ s at v out to r m₂ out'
       → (t : Tree) → Stands s at (write_node t) → NodesFit t → concluded q ≡ conclusion t
       → ShrunkAs (shorten limits t q (view m)) (at + length (write_node t)) out to r (view m₂) out'
   premise_as h below t st fit e =
       rw (shorten_goes t q (view m) (view m₁) (sym e) (premise_spells h))
-      (below.is t st fit (sym e ∙ sym ((spelled.means h).means ∙ ap concluded MadeSo.means)))
+      (below.is t st fit (sym e ∙ sym ((spelled_means h).means ∙ ap concluded MadeSo.means)))
 
 -- the place after what was made
-whole_next : {x : Result Short × List Formula} {place : ℕ} {out : List ℕ} {to : ℕ} {r : Shrunk} {gs : List Formula} {out' : List ℕ} {next to' : ℕ}
+whole_next : {x : Result Short × List Formula} {place : ℕ} {out : List ℕ} {to : ℕ} {r : Shrink} {gs : List Formula} {out' : List ℕ} {next to' : ℕ}
     → ShrunkAs x place out to r gs out'
     → r ≡ Whole next to' → next ≡ place
 whole_next {x} {place} {out} {to} {r} {gs} {out'} {next} {to'} a e = go x.0 a.told
   where
     go : (y : Result Short) → Told y place out to r out' → next ≡ place
-    go (made t) w = cc w.answer
+    go (made t) w = ap place_of (sym e ∙ w.answer)
     go mismatch w = let z : ◌≡◌ {A = ℕ} 0 1 = cc in absurd (omega arith)
     go (refused k) w = absurd (never_whole k next to' (rw e at w))
 
@@ -379,7 +390,7 @@ Each s at q P = (t : Tree) → Stands s at (write_node t) → NodesFit t → con
 
 module _ {s : List ℕ} {at : ℕ} (fs : List Formula) {out : List ℕ} {to : ℕ} where
   first_tree : (qs : List Sequent) (ts : Trees) → (length qs ≡ 0 → ⊥) → map concluded qs ≡ conclusions ts → Stands s at (write_nodes ts) → NodesFit* ts
-      → {next : ℕ} {r : Shrunk} {gs : List Formula} {out' : List ℕ} → ((next to' : ℕ) → r ≡ Whole next to' → ⊥)
+      → {next : ℕ} {r : Shrink} {gs : List Formula} {out' : List ℕ} → ((next to' : ℕ) → r ≡ Whole next to' → ⊥)
       → Each s at (get_or qs 0 ([] ﹔ [])) (λ t. ShrunkAs (shorten limits t (get_or qs 0 ([] ﹔ [])) fs) (at + length (write_node t)) out to r gs out')
       → AllAs (shorten_all limits ts qs fs) next out to r gs out'
   unfolding conclusions write_nodes
@@ -390,7 +401,7 @@ module _ {s : List ℕ} {at : ℕ} (fs : List Formula) {out : List ℕ} {to : �
       all_failed t ts q qs fs k (a t (stands_left (write_node t) (write_nodes ts) st) fit.0 same)
 
   one_tree : (qs : List Sequent) (ts : Trees) → length qs ≡ 1 → map concluded qs ≡ conclusions ts → Stands s at (write_nodes ts) → NodesFit* ts
-      → {r : Shrunk} {gs : List Formula} {out' : List ℕ}
+      → {r : Shrink} {gs : List Formula} {out' : List ℕ}
       → Each s at (get_or qs 0 ([] ﹔ [])) (λ t. ShrunkAs (shorten limits t (get_or qs 0 ([] ﹔ [])) fs) (at + length (write_node t)) out to r gs out')
       → AllAs (shorten_all limits ts qs fs) (at + length (write_nodes ts)) out to r gs out'
   unfolding conclusions write_nodes
@@ -404,7 +415,7 @@ module _ {s : List ℕ} {at : ℕ} (fs : List Formula) {out : List ℕ} {to : �
       rw end (all_one t q fs (a t (stands_left (write_node t) [] st) fit.0 same))
 
   two_trees : (qs : List Sequent) (ts : Trees) → length qs ≡ 2 → map concluded qs ≡ conclusions ts → Stands s at (write_nodes ts) → NodesFit* ts
-      → {next to₁ : ℕ} {r₁ r : Shrunk} {hs gs : List Formula} {out₁ out₂ : List ℕ} → r₁ ≡ Whole next to₁
+      → {next to₁ : ℕ} {r₁ r : Shrink} {hs gs : List Formula} {out₁ out₂ : List ℕ} → r₁ ≡ Whole next to₁
       → Each s at (get_or qs 0 ([] ﹔ [])) (λ t. ShrunkAs (shorten limits t (get_or qs 0 ([] ﹔ [])) fs) (at + length (write_node t)) out to r₁ hs out₁)
       → Each s next (get_or qs 1 ([] ﹔ [])) (λ t. ShrunkAs (shorten limits t (get_or qs 1 ([] ﹔ [])) hs) (next + length (write_node t)) out₁ to₁ r gs out₂)
       → AllAs (shorten_all limits ts qs fs) (at + length (write_nodes ts)) out to r gs out₂
@@ -428,7 +439,7 @@ module _ {s : List ℕ} {at : ℕ} (fs : List Formula) {out : List ℕ} {to : �
 
 -- ---- a node that stands there, with its least step
 
-module _ {m s : List ℕ} {at : ℕ} {z : Zones} {n : Node} (found : NodeFound s at n) {place mask : ℕ} (l : LeastFor m z s n (At place mask)) where
+module _ {m s : List ℕ} {at : ℕ} {z : Zones} {n : Node} (found : NodeFound s at n) {place mask : ℕ} (l : LeastFor m z s n (Some (place, mask))) where
   abbrev its_rule : Rule
   its_rule = l.taken.named
 
@@ -449,7 +460,7 @@ module _ {m s : List ℕ} {at : ℕ} {z : Zones} {n : Node} (found : NodeFound s
       }
 
   -- a tree that stands there and concludes z is a node of the step's rule
-  each_tree : {out : List ℕ} {to : ℕ} {r : Shrunk} {gs : List Formula} {out' : List ℕ}
+  each_tree : {out : List ℕ} {to : ℕ} {r : Shrink} {gs : List Formula} {out' : List ℕ}
       → ((ts : Trees) → Standing s at n.next its_rule (sequent m z) ts place mask
       → ShrunkAs (shorten_spelt (node its_rule (sequent m z) ts) (view m)) (at + length (write_node (node its_rule (sequent m z) ts))) out to r gs out')
       → (t : Tree) → Stands s at (write_node t) → NodesFit t → conclusion t ≡ sequent m z
@@ -462,7 +473,7 @@ module _ {m s : List ℕ} {at : ℕ} {z : Zones} {n : Node} (found : NodeFound s
 
   -- its bytes, then those of its premises
   module _ {out : List ℕ} {to : ℕ} {out₁ : List ℕ} {written : ℕ} (put : PutNode out to n.rule place mask out₁ written) where
-    node_as : {r : Shrunk} {gs : List Formula} {out' : List ℕ} (ts : Trees) → Standing s at n.next its_rule (sequent m z) ts place mask
+    node_as : {r : Shrink} {gs : List Formula} {out' : List ℕ} (ts : Trees) → Standing s at n.next its_rule (sequent m z) ts place mask
         → AllAs (shorten_all limits ts (premises_of its_rule place mask (sequent m z)) (view m)) (n.next + length (write_nodes ts)) out₁ written r gs out'
         → ShrunkAs (shorten_spelt (node its_rule (sequent m z) ts) (view m)) (at + length (write_node (node its_rule (sequent m z) ts))) out to r gs out'
     node_as {r} {gs} {out'} ts st a =
@@ -504,15 +515,14 @@ module _ {m s : List ℕ} {at : ℕ} {z : Zones} {n : Node} (found : NodeFound s
 -- ---- the ways out of `shrink`
 
 -- from a place further on, with the bytes paid for
-within_further : (len : ℕ) {at to at' to' : ℕ} (r : Shrunk) → at ≤ at' → to ≤ to' → to' + 10 * (len - at') ≤ to + 10 * (len - at) → Within len at' to' r
+within_further : (len : ℕ) {at to at' to' : ℕ} (r : Shrink) → at ≤ at' → to ≤ to' → to' + 10 * (len - at') ≤ to + 10 * (len - at) → Within len at' to' r
     → Within len at to r
-within_further len (Whole next last) a b h w =
+within_further len (Ok g) a b h w =
     ((omega (arith, w.0.0), w.0.1), (omega (arith, w.1.0), omega (arith, w.1.1)))
-within_further len Full a b h w = tt
-within_further len Mismatch a b h w = tt
+within_further len (Err k) a b h w = tt
 
-full_apart : (next to : ℕ) → Full ≡ Whole next to → ⊥
-full_apart next to e = let z : ◌≡◌ {A = ℕ} 0 1 = cc in omega arith
+err_apart : {r : Shrink} {k : Stop} → r ≡ Err k → (next to : ℕ) → r ≡ Whole next to → ⊥
+err_apart h next to e = let z : ◌≡◌ {A = ℕ} 0 1 = cc in omega arith
 
 -- what is known before the end, and of a step that was found
 pub before_end : {m s : List ℕ} {at : ℕ} {z : Zones} {to : ℕ} → Shrinking m s at z to → (at ≡ length s → ⊥) → at < length s
@@ -521,23 +531,23 @@ before_end asked h = omega (arith, asked.inside)
 pub node_inside : {s : List ℕ} {at : ℕ} {n : Node} → NodeFound s at n → NodeInside (length s) n
 node_inside found = record { next_inside = found.within.next_inside }
 
-pub least_at : {m : List ℕ} {z : Zones} {s : List ℕ} {n : Node} {x : Least} {place mask : ℕ} → LeastFor m z s n x → x ≡ At place mask
-    → LeastFor m z s n (At place mask)
+pub least_at : {m : List ℕ} {z : Zones} {s : List ℕ} {n : Node} {x : Option (ℕ × ℕ)} {place mask : ℕ} → LeastFor m z s n x → x ≡ Some (place, mask)
+    → LeastFor m z s n (Some (place, mask))
 least_at l e = rw e at l
 
-pub least_nowhere : {m : List ℕ} {z : Zones} {s : List ℕ} {n : Node} {x : Least} → LeastFor m z s n x → x ≡ Nowhere → LeastFor m z s n Nowhere
+pub least_nowhere : {m : List ℕ} {z : Zones} {s : List ℕ} {n : Node} {x : Option (ℕ × ℕ)} → LeastFor m z s n x → x ≡ None → LeastFor m z s n None
 least_nowhere l e = rw e at l
 
-pub number_word : {m : List ℕ} {z : Zones} {s : List ℕ} {n : Node} {place mask number w : ℕ} → LeastFor m z s n (At place mask) → number ≡ n.rule
+pub number_word : {m : List ℕ} {z : Zones} {s : List ℕ} {n : Node} {place mask number w : ℕ} → LeastFor m z s n (Some (place, mask)) → number ≡ n.rule
     → w ≡ word number place mask → w ≡ word n.rule place mask
 number_word l e k = rw e at k
 
 -- what writing the node and its word ask
 module _ {m s : List ℕ} {at : ℕ} {z : Zones} {to : ℕ} {n : Node} {place mask : ℕ} where
-  pub node_room : Shrinking m s at z to → LeastFor m z s n (At place mask) → (place < 256) × ((mask < 4294967296) × (to ≤ 700000))
+  pub node_room : Shrinking m s at z to → LeastFor m z s n (Some (place, mask)) → (place < 256) × ((mask < 4294967296) × (to ≤ 700000))
   node_room asked l = (omega (arith, taken_place l.taken), (l.low, omega (arith, asked.room)))
 
-pub word_room : {m s : List ℕ} {z : Zones} {n : Node} {place mask number : ℕ} → number ≡ n.rule → LeastFor m z s n (At place mask)
+pub word_room : {m s : List ℕ} {z : Zones} {n : Node} {place mask number : ℕ} → number ≡ n.rule → LeastFor m z s n (Some (place, mask))
     → (number < 256) × ((place < 256) × (mask < 4294967296))
 word_room e l = (omega (arith, taken_rule l.taken), (omega (arith, taken_place l.taken), l.low))
 
@@ -546,7 +556,7 @@ pub falls_first : {s : List ℕ} {at : ℕ} {n : Node} {left : ℕ} → at < len
 falls_first before found e = omega (arith, found.within.further before, found.within.next_inside)
 
 -- no tree stands at the end
-pub shrinks_end : {m s : List ℕ} {at : ℕ} {z : Zones} {out : List ℕ} {to : ℕ} → Shrinking m s at z to → at ≡ length s → Shrinks m s at z out to Mismatch m out
+pub shrinks_end : {m s : List ℕ} {at : ℕ} {z : Zones} {out : List ℕ} {to : ℕ} → Shrinking m s at z to → at ≡ length s → Shrinks m s at z out to (Err Mismatch) m out
 shrinks_end {m} {s} {at} asked e = record {
   within = tt;
   wf = asked.sound.wf;
@@ -556,17 +566,17 @@ shrinks_end {m} {s} {at} asked e = record {
 }
 
 module _ {m s : List ℕ} {at : ℕ} {z : Zones} {out : List ℕ} {to : ℕ} (asked : Shrinking m s at z to) (before : at < length s) {n : Node} (found : NodeFound s at n) where
-  pub shrinks_nowhere : LeastFor m z s n Nowhere → Shrinks m s at z out to Mismatch m out
+  pub shrinks_nowhere : LeastFor m z s n None → Shrinks m s at z out to (Err Mismatch) m out
   shrinks_nowhere l = record { within = tt; wf = asked.sound.wf; grew = extends_refl m; long = refl; is = go }
     where
       go : (t : Tree) → Stands s at (write_node t) → NodesFit t → conclusion t ≡ sequent m z
-          → ShrunkAs (shorten_spelt t (view m)) (at + length (write_node t)) out to Mismatch (view m) out
+          → ShrunkAs (shorten_spelt t (view m)) (at + length (write_node t)) out to (Err Mismatch) (view m) out
       go (node r c ts) st fit e =
           let k = l.is r c ts (view m) (found.is r c ts st fit.0) fit.1 in
           let here : least r c (conclusions ts) (view m) ≡ (mismatch, view m) = ap (λ (q : Sequent). least r q (conclusions ts) (view m)) e ∙ k in
           rw (spelt_nowhere r c ts (view m) here) record { told = refl; held = refl }
 
-  module _ {place mask : ℕ} (l : LeastFor m z s n (At place mask)) {out₁ : List ℕ} {written : ℕ} (put : PutNode out to n.rule place mask out₁ written)
+  module _ {place mask : ℕ} (l : LeastFor m z s n (Some (place, mask))) {out₁ : List ℕ} {written : ℕ} (put : PutNode out to n.rule place mask out₁ written)
       {w : ℕ} (word_is : w ≡ word n.rule place mask) {k : ℕ} (count_is : k ≡ get_or premise_counts (rule_of w) 0) where
     -- a node passes a byte at least and writes six at most
     paid : written + 10 * (length s - n.next) + 4 ≤ to + 10 * (length s - at)
@@ -590,14 +600,14 @@ module _ {m s : List ℕ} {at : ℕ} {z : Zones} {out : List ℕ} {to : ℕ} (as
           (all_none ts (premises_of l.taken.named place mask (sequent m z)) (view m) n.next out₁ written (word_none l.taken word_is count_is h) st.fitted));
     }
 
-    module _ (some : k ≡ 0 → ⊥) {y : Zones} (first : Means m (first_of (step (sequent m z) w)) y) {x : Spelt} {m₁ : List ℕ} (spelled : SpeltTo m y x m₁) where
+    module _ (some : k ≡ 0 → ⊥) {y : Zones} (first : Means m (first_of (step (sequent m z) w)) y) {x : Option Zones} {m₁ : List ℕ} (spelled : SpeltTo m y x m₁) where
       first_made : Means m (get_or (premises_of l.taken.named place mask (sequent m z)) 0 ([] ﹔ [])) y
       first_made = rw (word_first l.taken word_is count_is some).1 at first
 
       none_failed : length (premises_of l.taken.named place mask (sequent m z)) ≡ 0 → ⊥
       none_failed h = some (sym as_many ∙ h)
 
-      pub shrinks_first_full : x.full ≡ true → Shrinks m s at z out to Full m₁ out₁
+      pub shrinks_first_full : x ≡ None → Shrinks m s at z out to (Err Full) m₁ out₁
       shrinks_first_full h = record {
         within = tt;
         wf = spelled.wf;
@@ -606,19 +616,19 @@ module _ {m s : List ℕ} {at : ℕ} {z : Zones} {out : List ℕ} {to : ℕ} (as
         is =
             each_tree found l (λ ts st.
             node_as found l put ts st
-            (first_tree (view m) (premises_of l.taken.named place mask (sequent m z)) ts none_failed st.fitted st.premises_stand st.premises_fit full_apart
+            (first_tree (view m) (premises_of l.taken.named place mask (sequent m z)) ts none_failed st.fitted st.premises_stand st.premises_fit (err_apart refl)
             (λ t there fit e. premise_full first_made spelled h t {out' = out₁})));
       }
 
-      pub first_shrinking : x.full ≡ false → Shrinking m₁ s n.next x.zones written
+      pub first_shrinking : {v : Zones} → x ≡ Some v → Shrinking m₁ s n.next v written
       first_shrinking h = record {
-        sound = (spelled.means h).sound;
+        sound = (spelled_means first_made spelled h).sound;
         inside = found.within.next_inside;
         short = asked.short;
         room = omega (arith, paid, asked.room);
       }
 
-      module _ (held : x.full ≡ false) {r₁ : Shrunk} {m₂ out₂ : List ℕ} (below : Shrinks m₁ s n.next x.zones out₁ written r₁ m₂ out₂) where
+      module _ {v : Zones} (held : x ≡ Some v) {r₁ : Shrink} {m₂ out₂ : List ℕ} (below : Shrinks m₁ s n.next v out₁ written r₁ m₂ out₂) where
         grown : Extends m m₂
         grown = extends_trans spelled.grew below.grew
 
@@ -638,7 +648,7 @@ module _ {m s : List ℕ} {at : ℕ} {z : Zones} {out : List ℕ} {to : ℕ} (as
               (premise_as first_made spelled held below)));
         }
 
-        pub shrinks_failed : ((next to' : ℕ) → r₁ ≡ Whole next to' → ⊥) → Shrinks m s at z out to r₁ m₂ out₂
+        pub shrinks_failed : {f : Stop} → r₁ ≡ Err f → Shrinks m s at z out to r₁ m₂ out₂
         shrinks_failed h = record {
           within = within_node;
           wf = below.wf;
@@ -647,7 +657,7 @@ module _ {m s : List ℕ} {at : ℕ} {z : Zones} {out : List ℕ} {to : ℕ} (as
           is =
               each_tree found l (λ ts st.
               node_as found l put ts st
-              (first_tree (view m) (premises_of l.taken.named place mask (sequent m z)) ts none_failed st.fitted st.premises_stand st.premises_fit h
+              (first_tree (view m) (premises_of l.taken.named place mask (sequent m z)) ts none_failed st.fitted st.premises_stand st.premises_fit (err_apart h)
               (premise_as first_made spelled held below)));
         }
 
@@ -658,7 +668,7 @@ module _ {m s : List ℕ} {at : ℕ} {z : Zones} {out : List ℕ} {to : ℕ} (as
           pub second_stepping : Stepping₂ m₂ z w
           second_stepping = (word_second (taken_grows grown below.wf l.taken) word_is count_is some more).0
 
-          module _ {y' : Zones} (other : Means m₂ (second_of (step (sequent m₂ z) w)) y') {x' : Spelt} {m₃ : List ℕ} (spelled' : SpeltTo m₂ y' x' m₃) where
+          module _ {y' : Zones} (other : Means m₂ (second_of (step (sequent m₂ z) w)) y') {x' : Option Zones} {m₃ : List ℕ} (spelled' : SpeltTo m₂ y' x' m₃) where
             second_made : Means m₂ (get_or (premises_of l.taken.named place mask (sequent m z)) 1 ([] ﹔ [])) y'
             second_made =
                 subst (λ (q : Sequent). Means m₂ q y')
@@ -668,7 +678,7 @@ module _ {m s : List ℕ} {at : ℕ} {z : Zones} {out : List ℕ} {to : ℕ} (as
             two : length (premises_of l.taken.named place mask (sequent m z)) ≡ 2
             two = as_many ∙ word_two l.taken word_is count_is some more
 
-            pub shrinks_second_full : x'.full ≡ true → Shrinks m s at z out to Full m₃ out₂
+            pub shrinks_second_full : x' ≡ None → Shrinks m s at z out to (Err Full) m₃ out₂
             shrinks_second_full h = record {
               within = tt;
               wf = spelled'.wf;
@@ -684,15 +694,15 @@ module _ {m s : List ℕ} {at : ℕ} {z : Zones} {out : List ℕ} {to : ℕ} (as
             pub falls_second : {left : ℕ} → length s - at ≡ left → length s - next < left
             falls_second e = omega (arith, found.within.further before, after_first.0.0, after_first.0.1)
 
-            pub second_shrinking : x'.full ≡ false → Shrinking m₃ s next x'.zones second
+            pub second_shrinking : {v' : Zones} → x' ≡ Some v' → Shrinking m₃ s next v' second
             second_shrinking h = record {
-              sound = (spelled'.means h).sound;
+              sound = (spelled_means second_made spelled' h).sound;
               inside = after_first.0.1;
               short = asked.short;
               room = omega (arith, paid, asked.room, after_first.1.1);
             }
 
-            pub shrinks_two : {r : Shrunk} {m₄ out₃ : List ℕ} → x'.full ≡ false → Shrinks m₃ s next x'.zones out₂ second r m₄ out₃
+            pub shrinks_two : {r : Shrink} {m₄ out₃ : List ℕ} {v' : Zones} → x' ≡ Some v' → Shrinks m₃ s next v' out₂ second r m₄ out₃
                 → Shrinks m s at z out to r m₄ out₃
             shrinks_two {r} h last = record {
               within =

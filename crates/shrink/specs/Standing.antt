@@ -1,5 +1,5 @@
 -- A node that stands in the message, with its least step; and its premises shortened, as the code answers them. Assumes nothing: these are definitions.
-use Rattle.std.specs.Prelude.{◌≡◌, List, map, ℕ, ◌+◌, length}
+use Rattle.std.specs.Prelude.{◌≡◌, Err, List, map, ℕ, ◌+◌, length}
 use Rattle.logic.specs.Formula.{Formula}
 use Rattle.logic.specs.Sequent.{Sequent}
 use Rattle.logic.specs.Conclusion.{concluded}
@@ -12,9 +12,8 @@ use Rattle.short.specs.Steps.{premises_of}
 use Rattle.short.specs.Making.{Result, made, mismatch, refused}
 use Rattle.short.specs.Shortening.{least}
 use Rattle.short_bytes.specs.Write.{write_short_nodes}
-use Rattle.shrink.specs.declared.Shrunk.{Shrunk}
-use Rattle.shrink.specs.declared.Shrunk.TheVariants.{Whole, Mismatch}
-use Rattle.shrink.specs.Shrinking.{Put, Refuses}
+use Rattle.shrink.specs.declared.Stop.TheVariants.{Mismatch}
+use Rattle.shrink.specs.Shrinking.{Shrink, Whole, Put, Refuses}
 
 -- the node with this rule, conclusion and premises stands at `at`, its premises at `below`, and its step is the least one
 pub record Standing (s : List ℕ) (at below : ℕ) (r : Rule) (q : Sequent) (ts : Trees) (place mask : ℕ) : Type 0 where
@@ -25,15 +24,15 @@ pub record Standing (s : List ℕ) (at below : ℕ) (r : Rule) (q : Sequent) (ts
   pub ends : below + length (write_nodes ts) ≡ at + length (write_node (node r q ts))
 
 -- premises shortened: the code's answer, and the output after it
-pub record AllWhole (ss : Shorts) (next : ℕ) (out : List ℕ) (to : ℕ) (r : Shrunk) (out' : List ℕ) : Type 0 where
+pub record AllWhole (ss : Shorts) (next : ℕ) (out : List ℕ) (to : ℕ) (r : Shrink) (out' : List ℕ) : Type 0 where
   pub answer : r ≡ Whole next (to + length (write_short_nodes ss))
   pub put : Put (write_short_nodes ss) out to out'
 
-abbrev pub AllTold : Result Shorts → (next : ℕ) → List ℕ → ℕ → Shrunk → List ℕ → Type 0
+abbrev pub AllTold : Result Shorts → (next : ℕ) → List ℕ → ℕ → Shrink → List ℕ → Type 0
 AllTold (made ss) next out to r out' = AllWhole ss next out to r out'
-AllTold mismatch next out to r out' = r ≡ Mismatch
+AllTold mismatch next out to r out' = r ≡ Err Mismatch
 AllTold (refused k) next out to r out' = Refuses k r
 
-pub record AllAs (x : Result Shorts × List Formula) (next : ℕ) (out : List ℕ) (to : ℕ) (r : Shrunk) (fs : List Formula) (out' : List ℕ) : Type 0 where
+pub record AllAs (x : Result Shorts × List Formula) (next : ℕ) (out : List ℕ) (to : ℕ) (r : Shrink) (fs : List Formula) (out' : List ℕ) : Type 0 where
   pub told : AllTold x.0 next out to r out'
   pub held : fs ≡ x.1

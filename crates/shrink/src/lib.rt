@@ -10,15 +10,20 @@ use expand::steps::{first_premise, premises, second_premise};
 use expand::writers::two_bytes;
 use least::least_step;
 use short_read::{TENSOR_INTRO, node_length};
-use split::Least;
 use step::{node_word, spell_first};
 use tree::node_at;
 use zones::Zones;
 
-// A part of the tree shortened: the places after it in the full message and in the short one. Or why there is none: 7, 15.
-#[derive(Clone, Copy)]
-pub enum Shrunk {
-    Whole { next: usize, to: usize },
+// A part of the tree shortened: the places after it in the full message and in the short one.
+#[derive(Clone, Copy, Debug, PartialEq, Eq)]
+pub struct Shrunk {
+    pub next: usize,
+    pub to: usize,
+}
+
+// Why there is none: 7, 15.
+#[derive(Clone, Copy, Debug, PartialEq, Eq)]
+pub enum Stop {
     Full,
     Mismatch,
 }
@@ -49,52 +54,45 @@ fn put_node(out: &mut [u8], to: usize, rule: u8, place: usize, mask: usize) -> u
     next
 }
 
-fn wide(b: u8) -> usize
-    ensures { (result ≡ b) × (result < 256) }
-{
-    b as usize
-}
-
 // The node whose bytes begin at place `at`, which concludes the sequent z: its first decomposable formula is no implication. Its short bytes go to `out` from place `to` on, as far as there is room.
-pub fn shrink(mem: &mut [u16], s: &[u8], at: usize, z: Zones, out: &mut [u8], to: usize) -> Shrunk
+pub fn shrink(
+    mem: &mut [u16],
+    s: &[u8],
+    at: usize,
+    z: Zones,
+    out: &mut [u8],
+    to: usize,
+) -> Result<Shrunk, Stop>
     requires { Shrinking mem.old s.now at z to }
     ensures { Shrinks mem.old s.now at z out.old to result mem.new out.new }
 {
     // No tree stands at the end.
     if at == s.len() {
-        return Shrunk::Mismatch;
+        return Err(Stop::Mismatch);
     }
     let node = node_at(s, at);
-    let Least::At(place, mask) = least_step(mem, z, s, node) else {
-        return Shrunk::Mismatch;
+    let Some((place, mask)) = least_step(mem, z, s, node) else {
+        return Err(Stop::Mismatch);
     };
-    let number = node.rule;
-    let below = node.next;
-    let written = put_node(out, to, number, place, mask);
-    let w = node_word(wide(number), place, mask);
+    let written = put_node(out, to, node.rule, place, mask);
+    let w = node_word(usize::from(node.rule), place, mask);
     let n = premises(w);
     if n == 0 {
-        return Shrunk::Whole {
-            next: below,
+        return Ok(Shrunk {
+            next: node.next,
             to: written,
-        };
+        });
     }
-    let p = spell_first(mem, first_premise(mem, z, w));
-    if p.full {
-        return Shrunk::Full;
-    }
-    let left = p.zones;
-    let first = shrink(mem, s, below, left, out, written);
+    let Some(p) = spell_first(mem, first_premise(mem, z, w)) else {
+        return Err(Stop::Full);
+    };
+    let first = shrink(mem, s, node.next, p, out, written);
     if n == 1 {
         return first;
     }
-    let Shrunk::Whole { next, to: second } = first else {
-        return first;
+    let left = first?;
+    let Some(q) = spell_first(mem, second_premise(mem, z, w)) else {
+        return Err(Stop::Full);
     };
-    let q = spell_first(mem, second_premise(mem, z, w));
-    if q.full {
-        return Shrunk::Full;
-    }
-    let right = q.zones;
-    shrink(mem, s, next, right, out, second)
+    shrink(mem, s, left.next, q, out, left.to)
 }
