@@ -5,7 +5,7 @@
 // and one that is longer: !..!a1, and each a product of the one before with itself.
 ghost use Rattle.std.specs.Prelude.{◌<◌};
 
-use super::words::{copy, put, say_answer};
+use super::words::{Words, put, say, tested};
 use std::io;
 use std::io::Read;
 use stored::byte;
@@ -15,13 +15,11 @@ fn digit(input: &mut impl Read) -> usize
     ensures { result < 10 }
 {
     let b = byte(input);
-    if b < 48 {
-        return 0;
+    if b.is_ascii_digit() {
+        usize::from(b - b'0')
+    } else {
+        0
     }
-    if 57 < b {
-        return 0;
-    }
-    b - 48
 }
 
 fn number(input: &mut impl Read) -> usize
@@ -38,8 +36,7 @@ fn number(input: &mut impl Read) -> usize
 
 // A number that fits a word; 0 for any other.
 fn word(input: &mut impl Read) -> u16 {
-    let n = number(input);
-    if n < 65536 { n as u16 } else { 0 }
+    u16::try_from(number(input)).unwrap_or(0)
 }
 
 fn run(input: &mut impl Read, mem: &mut [u16]) {
@@ -66,11 +63,10 @@ fn change(input: &mut impl Read, mem: &mut [u16]) {
 fn say_line(rt: &impl Print, input: &mut impl Read) -> io::Result<()> {
     for _ in 0..100 {
         let b = byte(input);
-        if b == 10 {
+        if b == b'\n' {
             return Ok(());
         }
-        let text = [b as u8];
-        rt.write_all(&text)?;
+        rt.write_all(&[b])?;
     }
     Ok(())
 }
@@ -78,22 +74,22 @@ fn say_line(rt: &impl Print, input: &mut impl Read) -> io::Result<()> {
 fn tried(
     rt: &impl Print,
     input: &mut impl Read,
-    good: &mut [u16],
-    mem: &mut [u16],
+    good: &mut Words,
+    mem: &mut Words,
 ) -> io::Result<()> {
     change(input, mem);
     say_line(rt, input)?;
-    let fine = memory::well_formed(mem);
-    say_answer(rt, fine)?;
-    if fine {
-        copy(mem, good);
+    let answer = tested(mem);
+    say(rt, "", answer)?;
+    if answer == 0 {
+        *good = *mem;
     } else {
-        copy(good, mem);
+        *mem = *good;
     }
     Ok(())
 }
 
-pub fn each(rt: &impl Print, input: &mut impl Read, mem: &mut [u16]) -> io::Result<()> {
+pub fn each(rt: &impl Print, input: &mut impl Read, mem: &mut Words) -> io::Result<()> {
     let mut good = [0u16; memory::WORDS];
     let n = number(input);
     for _ in 0..n {
