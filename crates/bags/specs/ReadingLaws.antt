@@ -1,8 +1,13 @@
 -- Laws of reading a formula: its tag and what follows it determine it, and are those of the formula read another way, by the tables. Assumes nothing.
 use Rattle.std.specs.Prelude.{◌≡◌, refl, Bool, true, false, ◌&&◌, ◌∷◌, ℕ, suc, ◌≤◌, ◌<◌, eqb}
-use Rattle.std.proofs.Common.{sym, ap, ap₂, ◌∙◌, arith, eq-eqb, eqb-true, lit<}
+use Rattle.std.proofs.Common.{sym, ap, ap₂, ◌∙◌, arith, ⊎_elim, eq-eqb, eqb-true, lit<}
 use Rattle.std.proofs.Math.Bool.{So, and-eq-true_iff}
 use Rattle.std.proofs.Math.ListN.{get_or-eq_default}
+use Rattle.std.proofs.lemmas.Bool.{cases_lt}
+use Rattle.formula.specs.Reading.{form_of}
+use Rattle.formula.specs.ReadingLaws.{unit_tag, named_tag, binary_tag, unary_tag, unknown_tag}
+use Rattle.formula.specs.declared.Form.{Form}
+use Rattle.formula.specs.declared.Form.TheVariants.{Unit, Named, Binary, Unary, Unknown}
 use Rattle.logic.specs.Formula.{Formula, One, Bottom, Top, Zero, Atom, NegAtom, Tensor, Par, With, Plus, Lolli, OfCourse, WhyNot, negate, spell, size, height, same}
 use Rattle.logic.proofs.FormulaLaws.{same_iff, different_same}
 use Rattle.logic.specs.Parts.{tag_of, signs, make, negated_tags, negated_tag}
@@ -222,3 +227,30 @@ module _ (f g : Formula) (tags : tag_of f ≡ tag_of g) where
       (λ e.
       let k = (and-eq-true_iff (same a b) (same a' b')).0 e in
       (same_iff f g).1 (parts_determine f g tags (p ∙ ap₂ binary ((same_iff a b).0 k.0) ((same_iff a' b').0 k.1) ∙ sym q)))
+
+-- ---- the tags of a form
+
+abbrev pub TagOf : Form → ℕ → Type 0
+TagOf Unit t = t < 4
+TagOf Named t = (4 ≤ t) × (t < 6)
+TagOf Binary t = (6 ≤ t) × (t < 11)
+TagOf Unary t = 11 ≤ t
+TagOf Unknown t = 11 ≤ t
+
+pub tag_of_form : {f : Form} (t : ℕ) → f ≡ form_of t → TagOf f t
+tag_of_form t e = rw e (⊎_elim unit_here (λ h. ⊎_elim (named_here h) (λ h. ⊎_elim (binary_here h) (λ h. ⊎_elim (unary_here h) unknown_here (cases_lt t 13)) (cases_lt t 11)) (cases_lt t 6)) (cases_lt t 4))
+  where
+    unit_here : t < 4 → TagOf (form_of t) t
+    unit_here h = rw (unit_tag t h) h
+
+    named_here : 4 ≤ t → t < 6 → TagOf (form_of t) t
+    named_here h k = rw (named_tag t h k) (h, k)
+
+    binary_here : 6 ≤ t → t < 11 → TagOf (form_of t) t
+    binary_here h k = rw (binary_tag t h k) (h, k)
+
+    unary_here : 11 ≤ t → t < 13 → TagOf (form_of t) t
+    unary_here h k = rw (unary_tag t h k) h
+
+    unknown_here : 13 ≤ t → TagOf (form_of t) t
+    unknown_here h = rw (unknown_tag t h) (omega arith)

@@ -7,6 +7,8 @@ ghost use Rattle.bags.specs.Reading.{sign_of, left_how, right_how};
 ghost use Rattle.bags.specs.Compared.{SignOf, LeftOf, RightOf, Names, TopsAre, Compares, Once};
 ghost use Rattle.bags.specs.Runs.{Short, RunWithin, BagWithin, Counts, CountsIn, Agrees, Long, LongIn, BagsSame};
 
+use formula::Form;
+use formula::rewrite::LOLLI;
 use tree::HIGHEST_FORMULA;
 
 // How the formula at a place is read: as it stands, with an implication at the top spelled out, or negated.
@@ -40,7 +42,9 @@ enum Tops {
     Two,
 }
 
-// The tag of the negation, by the tag.
+const PAR: u8 = 7;
+
+// The tag of the negation, by the tag. The same numbers as in formula::rewrite, which looks up known tags alone.
 const NEGATED: [u8; 13] = [1, 0, 3, 2, 5, 4, 7, 6, 9, 8, 6, 12, 11];
 
 fn negated(tag: u8) -> u8
@@ -56,7 +60,8 @@ pub fn sign(tag: u8, how: How) -> u8
 {
     match how {
         How::Plain => tag,
-        How::Spelled => if tag == 10 { 7 } else { tag },
+        How::Spelled if tag == LOLLI => PAR,
+        How::Spelled => tag,
         How::Negated => negated(tag),
     }
 }
@@ -67,9 +72,9 @@ pub fn left_how(tag: u8, how: How) -> How
     ensures { result ≡ left_how tag how }
 {
     match how {
-        How::Plain => How::Plain,
-        How::Spelled => if tag == 10 { How::Negated } else { How::Plain },
-        How::Negated => if tag == 10 { How::Plain } else { How::Negated },
+        How::Spelled if tag == LOLLI => How::Negated,
+        How::Negated if tag != LOLLI => How::Negated,
+        _ => How::Plain,
     }
 }
 
@@ -130,16 +135,12 @@ fn compare_tops(s: &[u8], x: Place, y: Place) -> Tops
     if tag != sign_at(s, y) {
         return Tops::Told(None);
     }
-    if tag < 4 {
-        return Tops::Told(Some((tree::after(s, x.at, 1), tree::after(s, y.at, 1))));
+    match formula::form_of(tag) {
+        Form::Unit => Tops::Told(Some((tree::after(s, x.at, 1), tree::after(s, y.at, 1)))),
+        Form::Named => Tops::Told(names(s, x.at, y.at)),
+        Form::Binary => Tops::Two,
+        Form::Unary | Form::Unknown => Tops::One,
     }
-    if tag < 6 {
-        return Tops::Told(names(s, x.at, y.at));
-    }
-    if tag > 10 {
-        return Tops::One;
-    }
-    Tops::Two
 }
 
 // Two formulas of at most `levels` levels, walked in step.
@@ -175,6 +176,7 @@ pub fn times(s: &[u8], run: Run, x: Place) -> usize
 {
     let mut p = run.at;
     let mut n = 0;
+    // From formula to formula: no `for` over the bytes.
     while p < run.end {
         n += once(
             s,
@@ -207,6 +209,7 @@ fn agree_on(s: &[u8], run: Run, x: &[Run], y: &[Run]) -> bool
     ensures { Agrees s.now run x.now y.now result }
 {
     let mut p = run.at;
+    // From formula to formula: no `for` over the bytes.
     while p < run.end {
         let f = Place {
             at: p,
@@ -227,6 +230,7 @@ fn count(s: &[u8], run: Run) -> usize
 {
     let mut p = run.at;
     let mut n = 0;
+    // From formula to formula: no `for` over the bytes.
     while p < run.end {
         n += 1;
         p = tree::next_formula(s, p, run.end);

@@ -46,6 +46,7 @@ pub fn read_formulas(s: &[u8], at: usize, end: usize) -> Result<usize, Refusal>
 {
     let mut count = 0;
     let mut p = at;
+    // From formula to formula: no `for` over the bytes.
     while p < end {
         p = formula::read_formula(s, p, end, HIGHEST_FORMULA)?;
         count += 1;
@@ -291,6 +292,7 @@ pub fn after_tree(s: &[u8], at: usize) -> usize
 {
     let mut awaited = 1;
     let mut p = at;
+    // Each node adds to what is awaited: no counted loop.
     while awaited > 0 {
         if s.len() - p < awaited {
             return p;
