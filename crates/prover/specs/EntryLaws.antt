@@ -1,7 +1,7 @@
 -- Laws of `prove` itself, one a way out: settings that do not fit, a memory that is not well-formed, a question refused, a question searched. Assumes nothing.
 use Rattle.std.proofs.Math.Path.{◌≡◌, refl, sym, ap}
 use Rattle.std.proofs.Common.{subst, ◌∙◌, arith, ltb-true, lt-ltb, le-ltb}
-use Rattle.std.specs.Prelude.{Bool, ℕ, ◌≤◌, ◌<◌}
+use Rattle.std.specs.Prelude.{Bool, Err, Ok, Result, ℕ, ◌≤◌, ◌<◌}
 use Rattle.std.proofs.Math.Bool.{true, false}
 use mathlib.Core.List.{List, []}
 use Rattle.std.proofs.Math.Dec.{ltb}
@@ -25,10 +25,7 @@ use Rattle.failures.specs.AlikeLaws.{alike_self, alike_of}
 use Rattle.memory.specs.Meaning as memory
 use Rattle.memory.specs.Meaning.{Wf, holds, held_count, failed}
 use Rattle.memory.specs.MeaningLaws.{holds_length}
-use Rattle.ask.specs.declared.whole.Reading as reading
-use Rattle.ask.specs.declared.whole.Reading.TheVariants as reads
-use Rattle.ask.specs.declared.whole.Entered.{Entered}
-use Rattle.ask.specs.Reading.{answer_of, Taken, TakenOr, ReadInto}
+use Rattle.ask.specs.Reading.{answer_of, reading_of, Taken, TakenOr, ReadInto}
 use Rattle.search.specs.declared.Prover.{Prover}
 use Rattle.search.specs.Plans.{sequent}
 use Rattle.search.specs.Asked.{proving, Asked}
@@ -82,26 +79,26 @@ module _ (call : Call) {r : Answer} where
             few = tt;
           })
 
-      by_answer : reads.Refused why ≡ answer_of (holds call.memory) (wire.read_question call.question) → Promise call (as_before call r)
+      by_answer : Err why ≡ answer_of (holds call.memory) (wire.read_question call.question) → Promise call (as_before call r)
       unfolding answer_of exceeds
       by_answer h = go (wire.read_question call.question) refl h
         where
-          full : (q : Question) (rest : List ℕ) → wire.read_question call.question ≡ wire.got q rest → (b : Bool) → ltb 2048 (length (enter_question q (holds call.memory))) ≡ b → reads.Refused why ≡ elim b as (λ _. reading.Reading) [ true ↦ reads.Refused HeldFull | false ↦ reads.Sequent ] → Promise call (as_before call r)
+          full : (q : Question) (rest : List ℕ) → wire.read_question call.question ≡ wire.got q rest → (b : Bool) → ltb 2048 (length (enter_question q (holds call.memory))) ≡ b → Err why ≡ elim b as (λ _. Result (Unit {0}) Refusal) [ true ↦ Err HeldFull | false ↦ Ok tt ] → Promise call (as_before call r)
           full q rest m true b h = no_room q rest m (ltb-true _ _ b) cc
           full q rest m false b h = let z : ◌≡◌ {A = ℕ} 0 1 = cc in absurd (omega arith)
 
-          go : (m : wire.Read Question) → wire.read_question call.question ≡ m → reads.Refused why ≡ answer_of (holds call.memory) m → Promise call (as_before call r)
+          go : (m : wire.Read Question) → wire.read_question call.question ≡ m → Err why ≡ answer_of (holds call.memory) m → Promise call (as_before call r)
           go (wire.refused k) m h = question_refused f w k m (rw e (ap (λ x. left_of (Refused x zeroes) call.memory call.work call.output) (let same : why ≡ coded k = cc in same)))
           go (wire.got q rest) m h = full q rest m _ refl h
 
       -- by the answer of reading
-      pub question_out : {x : Entered} {m : List ℕ} → ReadInto call.memory call.question x m → x.reading ≡ reads.Refused why → Promise call (left_of r m call.work call.output)
+      pub question_out : {x : Result Zones Refusal} {m : List ℕ} → ReadInto call.memory call.question x m → x ≡ Err why → Promise call (left_of r m call.work call.output)
       question_out {x} {m} h is =
-          let same : m ≡ call.memory = subst (λ y. TakenOr y call.memory call.question x.zones m) is h.after in
-          subst (λ y. Promise call (left_of r y call.work call.output)) (sym same) (by_answer (sym is ∙ h.answer))
+          let same : m ≡ call.memory = subst (λ y. TakenOr y call.memory call.question m) is h.after in
+          subst (λ y. Promise call (left_of r y call.work call.output)) (sym same) (by_answer (sym (ap reading_of is) ∙ h.answer))
 
-pub read_taken : {m s m' : List ℕ} {x : Entered} → ReadInto m s x m' → x.reading ≡ reads.Sequent → Taken m s x.zones m'
-read_taken {m} {s} {m'} {x} h is = subst (λ y. TakenOr y m s x.zones m') is h.after
+pub read_taken : {m s m' : List ℕ} {x : Result Zones Refusal} {z : Zones} → ReadInto m s x m' → x ≡ Ok z → Taken m s z m'
+read_taken {m} {s} {m'} h is = subst (λ y. TakenOr y m s m') is h.after
 
 -- a question searched
 module _ (call : Call) (f : SettingsFit call) (w : Wf call.memory) (bytes : Bytes call.question) {z : Zones} {m : List ℕ} (t : Taken call.memory call.question z m) where

@@ -1,5 +1,5 @@
 -- Laws of the steps of `prove`: a tree written or too long, a search's outcome, a question refused or searched. Assumes nothing.
-use Rattle.std.specs.Prelude.{◌≡◌, refl, Bool, ℕ, ◌≤◌, leb, length}
+use Rattle.std.specs.Prelude.{◌≡◌, refl, Bool, ℕ, ◌≤◌, leb, length, None, Option, Some}
 use Rattle.std.proofs.Common.{sym, ◌∙◌, arith, leb-true, le-leb}
 use Rattle.std.proofs.Math.Path.{ap, subst}
 use Rattle.std.proofs.Math.Bool.{true, false, and-eq-true_iff}
@@ -17,8 +17,6 @@ use Rattle.question.proofs.TurningLaws.{front_stored}
 use Rattle.expand.specs.Short.{expand}
 use Rattle.expand.specs.InMemory.{InMemory, InMemory*}
 use Rattle.expand.specs.Trees.{most_levels, OfTree, Fitting, Unfit, Answered}
-use Rattle.expand.specs.declared.nodes.Output.{Output}
-use Rattle.expand.specs.declared.nodes.Output.TheVariants.{Bytes, TooLong}
 use Rattle.failures.specs.AlikeLaws.{alike_self}
 use Rattle.memory.specs.Meaning as memory
 use Rattle.memory.specs.Meaning.{holds, held_count, failed, formula_words}
@@ -74,11 +72,11 @@ module _ (c : Counters) (out : List ℕ) (t : Tree) where
       go false e = record { answer_is = sym (answered_as e); output_is = h.same ∙ sym (output_as e) }
 
 -- by the writer's answer
-module _ (m : List ℕ) {w : List ℕ} {z : Zones} (c : Counters) (out : List ℕ) {r : Output} {out' : List ℕ} (h : OfTree (formula_words m) w z most_levels 0 (Answered out out' r)) where
-  pub writes_bytes : {n : ℕ} → r ≡ Bytes n → Writes m w z c out (Found n c) out'
+module _ (m : List ℕ) {w : List ℕ} {z : Zones} (c : Counters) (out : List ℕ) {r : Option ℕ} {out' : List ℕ} (h : OfTree (formula_words m) w z most_levels 0 (Answered out out' r)) where
+  pub writes_bytes : {n : ℕ} → r ≡ Some n → Writes m w z c out (Found n c) out'
   writes_bytes e = record { of_tree = λ t rest x. wrote_bytes c out t rest (subst (λ y. Answered out out' y t rest) e (h.of_tree t rest x)) }
 
-  pub writes_none : r ≡ TooLong → Writes m w z c out (Refused OutputShort c) out'
+  pub writes_none : r ≡ None → Writes m w z c out (Refused OutputShort c) out'
   writes_none e = record { of_tree = λ t rest x. wrote_none c out t rest (subst (λ y. Answered out out' y t rest) e (h.of_tree t rest x)) }
 
 -- ---- a search

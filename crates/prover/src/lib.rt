@@ -9,8 +9,8 @@ ghost use Rattle.prover.specs.declared.Answer.TheVariants as answer;
 ghost use Rattle.prover.specs.Promise.{Fit, zeroes, call_of, left_of, Promise};
 ghost use Rattle.prover.specs.Steps.{Writable, Writes, Searches};
 
-use ask::whole::{Reading, read_into};
-use expand::nodes::{Output, write_tree};
+use ask::whole::read_into;
+use expand::nodes::write_tree;
 use formula::Refusal;
 use memory::FORMULAS;
 use search::counters::Counters;
@@ -29,19 +29,7 @@ pub enum Answer {
 fn settings_fit(limit: usize, budget: usize, room: usize) -> bool
     ensures { Tells result (Fit limit budget room) }
 {
-    if Prover::MAX_DEPTH < limit {
-        return false;
-    }
-    if budget == 0 {
-        return false;
-    }
-    if Prover::MAX_BUDGET < budget {
-        return false;
-    }
-    if room < budget {
-        return false;
-    }
-    true
+    limit <= Prover::MAX_DEPTH && 0 < budget && budget <= Prover::MAX_BUDGET && budget <= room
 }
 
 // A refusal before the search.
@@ -56,10 +44,9 @@ fn written(mem: &[u16], work: &[u64], z: Zones, c: Counters, out: &mut [u8]) -> 
     requires { Writable mem.now work.now z }
     ensures { Writes mem.now work.now z c out.old result out.new }
 {
-    let n = FORMULAS;
-    match write_tree(&mem[..n], work, z, out) {
-        Output::Bytes(k) => Answer::Found(k, c),
-        Output::TooLong => Answer::Refused(Refusal::OutputShort, c),
+    match write_tree(&mem[..FORMULAS], work, z, out) {
+        Some(n) => Answer::Found(n, c),
+        None => Answer::Refused(Refusal::OutputShort, c),
     }
 }
 
@@ -93,18 +80,14 @@ pub fn prove(
     if !memory::well_formed(mem) {
         return refused(Refusal::WrongMemory);
     }
-    let r = read_into(mem, question);
-    let reading = r.reading;
-    match reading {
-        Reading::Refused(why) => refused(why),
-        Reading::Sequent => {
-            let p = Prover {
-                limit,
-                budget,
-                cache,
-            };
-            let z = r.zones;
-            search(p, z, mem, work, out)
-        }
-    }
+    let z = match read_into(mem, question) {
+        Ok(z) => z,
+        Err(why) => return refused(why),
+    };
+    let p = Prover {
+        limit,
+        budget,
+        cache,
+    };
+    search(p, z, mem, work, out)
 }

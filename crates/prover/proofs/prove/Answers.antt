@@ -1,6 +1,6 @@
 use Rattle.held.proofs.RowSteps.{told, untold}
 use Rattle.prover.specs.Promise.{call_of}
-use Rattle.prover.specs.EntryLaws.{settings_out, memory_out, question_out, read_taken, search_asked, search_out}
+use Rattle.prover.specs.EntryLaws.{settings_out, memory_out, question_out, read_taken, search_out}
 use Rattle.prover.proofs.prove.Goals as goal
 
 pub returns-then-not-settings_fit : goal.returns-then-not-settings_fit
@@ -9,14 +9,8 @@ returns-then-not-settings_fit c = settings_out (call_of c.args.question.now c.ar
 pub returns-then-not-well_formed : goal.returns-then-not-well_formed
 returns-then-not-well_formed c = memory_out (call_of c.args.question.now c.args.limit c.args.budget c.args.cache c.args.mem.now c.args.work.now c.args.out.now) (told c.settings_fit.result _ c.settings_fit.ensures c.if-not-settings_fit.false) (untold c.well_formed-2.result _ c.well_formed-2.ensures c.if-not-well_formed.true) c.refused-then-not-well_formed.ensures
 
-pub read_into-r-requires : goal.read_into-r-requires
-read_into-r-requires c = told c.well_formed-2.result _ c.well_formed-2.ensures c.if-not-well_formed.false
+pub returns-in-Err : goal.returns-in-Err
+returns-in-Err c = question_out (call_of c.args.question.now c.args.limit c.args.budget c.args.cache c.args.mem.now c.args.work.now c.args.out.now) (told c.settings_fit.result _ c.settings_fit.ensures c.if-not-settings_fit.false) (told c.well_formed-2.result _ c.well_formed-2.ensures c.if-not-well_formed.false) (record { byte = λ k. (c.type_inv.question k).fits }) c.refused-in-Err.ensures c.read_into.ensures c.in-Err.is
 
-pub search-requires : goal.search-requires
-search-requires c = search_asked (call_of c.args.question.now c.args.limit c.args.budget c.args.cache c.args.mem.now c.args.work.now c.args.out.now) (told c.settings_fit.result _ c.settings_fit.ensures c.if-not-settings_fit.false) (told c.well_formed-2.result _ c.well_formed-2.ensures c.if-not-well_formed.false) (record { byte = λ k. (c.type_inv.question k).fits }) (read_taken c.read_into-r.ensures c.in-Sequent.is)
-
-pub returns-in-Refused : goal.returns-in-Refused
-returns-in-Refused c = question_out (call_of c.args.question.now c.args.limit c.args.budget c.args.cache c.args.mem.now c.args.work.now c.args.out.now) (told c.settings_fit.result _ c.settings_fit.ensures c.if-not-settings_fit.false) (told c.well_formed-2.result _ c.well_formed-2.ensures c.if-not-well_formed.false) (record { byte = λ k. (c.type_inv.question k).fits }) c.refused-in-Refused.ensures c.read_into-r.ensures c.in-Refused.is
-
-pub returns-in-Sequent : goal.returns-in-Sequent
-returns-in-Sequent c = search_out (call_of c.args.question.now c.args.limit c.args.budget c.args.cache c.args.mem.now c.args.work.now c.args.out.now) (told c.settings_fit.result _ c.settings_fit.ensures c.if-not-settings_fit.false) (told c.well_formed-2.result _ c.well_formed-2.ensures c.if-not-well_formed.false) (record { byte = λ k. (c.type_inv.question k).fits }) (read_taken c.read_into-r.ensures c.in-Sequent.is) c.search.ensures
+pub returns : goal.returns
+returns c = search_out (call_of c.args.question.now c.args.limit c.args.budget c.args.cache c.args.mem.now c.args.work.now c.args.out.now) (told c.settings_fit.result _ c.settings_fit.ensures c.if-not-settings_fit.false) (told c.well_formed-2.result _ c.well_formed-2.ensures c.if-not-well_formed.false) (record { byte = λ k. (c.type_inv.question k).fits }) (read_taken c.read_into.ensures c.in-Ok.is) c.search.ensures
