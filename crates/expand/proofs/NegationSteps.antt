@@ -55,8 +55,8 @@ pub number_none : (m : List ℕ) (f : Formula) (r : Option ℕ) → NumberOf m f
 number_none m f (Some i) x e = cc
 number_none m f None x e = noted_none x
 
-noted_as : {m : List ℕ} {f g : Formula} {r : ℕ} → f ≡ g → Noted m f r → Noted m g r
-noted_as e n = rw e at n
+number_as : (m : List ℕ) {f g : Formula} (r : Option ℕ) → f ≡ g → NumberOf m f r → NumberOf m g r
+number_as m r e n = rw e at n
 
 -- a word that is no zero
 noted_some : {m : List ℕ} {f : Formula} {r : ℕ} → Noted m f r → (r ≡ 0 → ⊥) → (r - 1 < count m) × (told m (r - 1) ≡ f)
@@ -106,9 +106,11 @@ module _ {m table : List ℕ} {x : ℕ} (p : Table m table x × (x < count m)) {
   pub leaf_next : {d : ℕ} → t < 6 → d ≡ negated_tag t → Next m d a 0
   leaf_next h e = rw e record { wf = p.0.wf; tall = at m x 3; wide = at m x 4; row = leaf_row (count m) row h }
 
-  pub leaf_noted : {d r : ℕ} → t < 6 → d ≡ negated_tag t → Noted m (node d a 0 (view m)) r → Noted m (negate (told m x)) r
-  leaf_noted {d} h e =
-      noted_as
+  pub leaf_noted : {d : ℕ} (r : Option ℕ) → t < 6 → d ≡ negated_tag t → NumberOf m (node d a 0 (view m)) r → NumberOf m (negate (told m x)) r
+  leaf_noted {d} r h e =
+      number_as
+      m
+      r
       (ap (λ (k : ℕ). node k a 0 (view m)) e
       ∙ node_make (negated_tag t) a 0 (view m)
       ∙ sym (negate_leaf a (told m a) (told m b) (told m a) (told m 0) t h)
@@ -144,9 +146,9 @@ module _ {m table : List ℕ} {x : ℕ} (p : Table m table x × (x < count m)) {
     lolli_is : negate (told m x) ≡ make 6 a (told m a) (negate (told m b))
     lolli_is = ap negate (told_is ∙ ap (λ (k : ℕ). make k a (told m a) (told m b)) e) ∙ negate_make_lolli a (told m a) (told m b) a
 
-    pub lolli_none : get_or table b 0 ≡ 0 → Noted m (negate (told m x)) 0
+    pub lolli_none : get_or table b 0 ≡ 0 → NumberOf m (negate (told m x)) None
     lolli_none z =
-        noted_none λ y l f.
+        λ y l f.
         let parts = part_of_mid m p.0.wf l 6 a (told m a) (negate (told m b)) (f ∙ lolli_is) (omega arith) (omega arith) in
         omega (arith, z, (right_word (omega arith) (omega arith)).complete (at m y 2) parts.1.0 parts.1.1)
 
@@ -160,9 +162,11 @@ module _ {m table : List ℕ} {x : ℕ} (p : Table m table x × (x < count m)) {
           let w = same_weight m p.0.wf lolli_right.0 b_low lolli_right.1 in
           next_two (omega arith) (omega arith) (omega arith) (omega arith) (omega (arith, p.1, left_low (omega arith))) lolli_right.0 refl refl w.0 w.1
 
-      pub lolli_noted : {r : ℕ} → Noted m (node 6 a (get_or table b 0 - 1) (view m)) r → Noted m (negate (told m x)) r
-      lolli_noted =
-          noted_as
+      pub lolli_noted : (r : Option ℕ) → NumberOf m (node 6 a (get_or table b 0 - 1) (view m)) r → NumberOf m (negate (told m x)) r
+      lolli_noted r =
+          number_as
+          m
+          r
           (node_make 6 a (get_or table b 0 - 1) (view m) ∙ ap (make 6 a (told m a)) lolli_right.1 ∙ sym lolli_is)
 
   -- two parts, both negated
@@ -176,11 +180,11 @@ module _ {m table : List ℕ} {x : ℕ} (p : Table m table x × (x < count m)) {
         let d = negated_binary t h (omega arith) in
         part_of_mid m p.0.wf l (negated_tag t) a (negate (told m a)) (negate (told m b)) (f ∙ mid_is) d.0 d.1
 
-    mid_none_left : get_or table a 0 ≡ 0 → Noted m (negate (told m x)) 0
-    mid_none_left z = noted_none λ y l f. let q = mid_parts l f in omega (arith, z, (left_word h).complete (at m y 1) q.0.0 q.0.1)
+    mid_none_left : get_or table a 0 ≡ 0 → NumberOf m (negate (told m x)) None
+    mid_none_left z = λ y l f. let q = mid_parts l f in omega (arith, z, (left_word h).complete (at m y 1) q.0.0 q.0.1)
 
-    pub mid_none_right : get_or table b 0 ≡ 0 → Noted m (negate (told m x)) 0
-    mid_none_right z = noted_none λ y l f. let q = mid_parts l f in omega (arith, z, (right_word h (omega arith)).complete (at m y 2) q.1.0 q.1.1)
+    pub mid_none_right : get_or table b 0 ≡ 0 → NumberOf m (negate (told m x)) None
+    mid_none_right z = λ y l f. let q = mid_parts l f in omega (arith, z, (right_word h (omega arith)).complete (at m y 2) q.1.0 q.1.1)
 
     module _ (za : get_or table a 0 ≡ 0 → ⊥) (zb : get_or table b 0 ≡ 0 → ⊥) {d : ℕ} (e : d ≡ negated_tag t) where
       mid_left : (get_or table a 0 - 1 < count m) × (told m (get_or table a 0 - 1) ≡ negate (told m a))
@@ -198,9 +202,11 @@ module _ {m table : List ℕ} {x : ℕ} (p : Table m table x × (x < count m)) {
           let wb = same_weight m p.0.wf mid_right.0 b_low mid_right.1 in
           rw e (next_two h (omega arith) u.0 u.1 mid_left.0 mid_right.0 wa.0 wa.1 wb.0 wb.1)
 
-      pub mid_noted : {r : ℕ} → Noted m (node d (get_or table a 0 - 1) (get_or table b 0 - 1) (view m)) r → Noted m (negate (told m x)) r
-      mid_noted =
-          noted_as
+      pub mid_noted : (r : Option ℕ) → NumberOf m (node d (get_or table a 0 - 1) (get_or table b 0 - 1) (view m)) r → NumberOf m (negate (told m x)) r
+      mid_noted r =
+          number_as
+          m
+          r
           (node_make d (get_or table a 0 - 1) (get_or table b 0 - 1) (view m)
           ∙ rw (e, mid_left.1, mid_right.1) (make_name (get_or table a 0 - 1) a (negate (told m a)) (negate (told m b)))
           ∙ sym mid_is)
@@ -213,9 +219,9 @@ module _ {m table : List ℕ} {x : ℕ} (p : Table m table x × (x < count m)) {
     high_is : negate (told m x) ≡ make (negated_tag t) a (negate (told m a)) (told m 0)
     high_is = ap negate told_is ∙ negate_unary a (told m a) (told m b) a (told m 0) t h negation_tag
 
-    high_none : get_or table a 0 ≡ 0 → Noted m (negate (told m x)) 0
+    high_none : get_or table a 0 ≡ 0 → NumberOf m (negate (told m x)) None
     high_none z =
-        noted_none λ y l f.
+        λ y l f.
         let d = negated_unary t h negation_tag in
         let q = part_of_high m p.0.wf l (negated_tag t) a (negate (told m a)) (told m 0) (f ∙ high_is) d.0 d.1 in
         omega (arith, z, (left_word (omega arith)).complete (at m y 1) q.0 q.1)
@@ -236,14 +242,16 @@ module _ {m table : List ℕ} {x : ℕ} (p : Table m table x × (x < count m)) {
             row = one u.0 u.1 high_left.0 refl refl refl (rw s.0 (row_tall_one row h)) (rw s.1 (row_wide_one row h));
           }
 
-      pub high_noted : {r : ℕ} → Noted m (node d (get_or table a 0 - 1) 0 (view m)) r → Noted m (negate (told m x)) r
-      high_noted =
-          noted_as
+      pub high_noted : (r : Option ℕ) → NumberOf m (node d (get_or table a 0 - 1) 0 (view m)) r → NumberOf m (negate (told m x)) r
+      high_noted r =
+          number_as
+          m
+          r
           (node_make d (get_or table a 0 - 1) 0 (view m)
           ∙ rw (e, high_left.1) (make_unary (get_or table a 0 - 1) a (negate (told m a)) (told m 0) (told m 0) (negated_tag t) (negated_unary t h negation_tag).0 (negated_unary t h negation_tag).1)
           ∙ sym high_is)
 
-  pub left_none : 6 ≤ t → (t ≡ 10 → ⊥) → get_or table a 0 ≡ 0 → Noted m (negate (told m x)) 0
+  pub left_none : 6 ≤ t → (t ≡ 10 → ⊥) → get_or table a 0 ≡ 0 → NumberOf m (negate (told m x)) None
   left_none h n z = ⊎_elim (λ k. high_none (omega arith) z) (λ k. mid_none_left h k z) (le_or_lt 10 t)
 
   -- a part's word stands in the table
@@ -254,9 +262,6 @@ module _ {m table : List ℕ} {x : ℕ} (p : Table m table x × (x < count m)) {
   right_in h k = omega (arith, right_low h k, p.1, p.0.wf.few, p.0.sized)
 
 -- the loop of `negations`: the words below x are filled
-pub noted_fits : {m : List ℕ} {f : Formula} {r : ℕ} → Wf m → Noted m f r → r < 65536
-noted_fits {m} {f} {r} wf n = ⊎_elim (λ k. omega (arith, wf.few, (n.sound (r - 1) (omega arith)).0)) (λ k. omega arith) (le_or_lt 1 r)
-
 pub table_start : {m table : List ℕ} → Wf m → length table ≡ most → Table m table 0
 table_start wf s = record { wf = wf; sized = s; filled = λ x l. absurd (omega arith) }
 

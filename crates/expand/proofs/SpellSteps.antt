@@ -19,13 +19,14 @@ use Rattle.held.specs.Signs.{node}
 use Rattle.held.specs.SignsLaws.{node_make}
 use Rattle.held.specs.Words.{at, count, view, told, Wf}
 use Rattle.held.specs.WordsLaws.{held_length, number_once, row_later}
-use Rattle.held.specs.Answers.{Field, Next}
+use Rattle.std.specs.Option.{unwrap_or}
+use Rattle.std.specs.Prelude.{None, Option, Some}
+use Rattle.held.specs.Answers.{NumberOf, Field, Next}
 use Rattle.zones.specs.declared.Zones.{Zones}
 use Rattle.zones.specs.Zones.{linears, Change, Adds, replace, replaced, Made, meant}
 use Rattle.zones.specs.ZonesLaws.{linears_length, linear_at, map_take, within_linear, within_made, meant_made}
 use Rattle.expand.specs.Short.{spelled}
 use Rattle.expand.specs.ShortLaws.{spell_length, plain_passed, plain_at}
-use Rattle.expand.specs.Negations.{Noted}
 use Rattle.expand.specs.Writing.{Sound, Means, decomposes, FirstAt, Spellable, SpelledAs, SpellsOut}
 use Rattle.expand.proofs.ByteSteps.{told_make, told_tag, tag_low, part_left, part_right}
 use Rattle.expand.proofs.NegationSteps.{part_of_mid}
@@ -163,21 +164,13 @@ module _ {m table : List ℕ} {x a b : ℕ} (p : Spellable m table x) (fa : Fiel
   pub number_next : Next m 7 (get_or table a 0 - 1) b
   number_next = rw (left_is, fb.value) (spelling p).next
 
-  module _ {r : ℕ} (n : Noted m (node 7 (get_or table a 0 - 1) b (view m)) r) where
-    number_is : r ≡ (spelling p).place + 1
-    number_is = n.complete (spelling p).place (spelling p).low (sym (rw (left_is, fb.value) (spelling p).node_is))
+  -- it is held, so that a look-up finds it
+  pub number_spells : (r : Option ℕ) → NumberOf m (node 7 (get_or table a 0 - 1) b (view m)) r → SpelledAs m x (unwrap_or r 0)
+  number_spells None n = absurd (n (spelling p).place (spelling p).low (sym (rw (left_is, fb.value) (spelling p).node_is)))
+  number_spells (Some i) n = record { low = n.0; here = n.1 ∙ rw (left_is, fb.value) (spelling p).node_is ∙ (spelling p).here }
 
-    place_is : r - 1 ≡ (spelling p).place
-    place_is = omega (arith, number_is)
-
-    pub number_some : 1 ≤ r
-    number_some = omega (arith, number_is)
-
-    pub number_fits : r - 1 < 65536
-    number_fits = omega (arith, number_is, (spelling p).low, p.table_is.wf.few)
-
-    pub number_spells : SpelledAs m x (r - 1)
-    number_spells = record { low = omega (arith, number_is, (spelling p).low); here = rw place_is (spelling p).here }
+pub number_fits : {m table : List ℕ} {x i : ℕ} → Spellable m table x → SpelledAs m x i → i < 65536
+number_fits p s = omega (arith, s.low, p.table_is.wf.few)
 
 -- zones that an operation makes, and what they mean
 module _ {m : List ℕ} {z r : Zones} {change : Change ℕ} (s : Sound m z) (k : Made z change r) (h : Adds (count m) change) where

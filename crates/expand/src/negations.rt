@@ -1,11 +1,11 @@
 // Which held formula is the negation of which, for all of a memory at once: an implication is spelled out by looking its left part up here.
-ghost use Rattle.std.specs.Prelude.{◌≡◌, ◌+◌, ◌<◌, length};
+ghost use Rattle.std.specs.Prelude.{◌≡◌, ◌+◌, ◌-◌, ◌<◌, ◌≤◌, length};
+ghost use Rattle.std.specs.Option.{SomeIff};
 ghost use Rattle.logic.specs.Formula.{negate};
 ghost use Rattle.logic.specs.Parts.{negated_tag};
-ghost use Rattle.held.specs.Signs.{node};
-ghost use Rattle.held.specs.Words.{count, most, view, told, Wf};
-ghost use Rattle.held.specs.Answers.{Next};
-ghost use Rattle.expand.specs.Negations.{Noted, Table, Above, Negated};
+ghost use Rattle.held.specs.Words.{count, most, told, Wf};
+ghost use Rattle.held.specs.Answers.{NumberOf};
+ghost use Rattle.expand.specs.Negations.{Table, Above, Negated};
 
 use held::entry::find;
 use held::words::field;
@@ -19,47 +19,34 @@ fn dual(tag: usize) -> usize
     duals[tag]
 }
 
-// One more than the number of a formula, by its tag and the numbers of its parts or its name; or 0 where it is not held.
-pub fn number_of(mem: &[u16], tag: usize, a: usize, b: usize) -> usize
-    requires { Next mem.now tag a b }
-    ensures { Noted mem.now (node tag a b (view mem.now)) result }
+// The number that a word of the table notes: the word is one more than it, and 0 notes none.
+fn noted(word: u16) -> Option<usize>
+    ensures { SomeIff result (1 ≤ word) (word - 1) }
 {
-    match find(mem, tag, a, b) {
-        Some(i) => i + 1,
-        None => 0,
-    }
+    usize::from(word).checked_sub(1)
 }
 
-// One more than the number of the negation of formula x, or 0 where that is not held. The table tells it of the formulas before x.
-fn negation(mem: &[u16], table: &[u16], x: usize) -> usize
+// The number of the negation of formula x, where that is held. The table tells it of the formulas before x.
+fn negation(mem: &[u16], table: &[u16], x: usize) -> Option<usize>
     requires { Table mem.now table.now x × (x < count mem.now) }
-    ensures { Noted mem.now (negate (told mem.now x)) result }
+    ensures { NumberOf mem.now (negate (told mem.now x)) result }
 {
     let tag = field(mem, x, 0);
     let a = field(mem, x, 1);
     let b = field(mem, x, 2);
     if tag < 6 {
-        return number_of(mem, dual(tag), a, 0);
+        return find(mem, dual(tag), a, 0);
     }
     if tag == 10 {
-        let right = table[b] as usize;
-        if right == 0 {
-            return 0;
-        }
-        return number_of(mem, 6, a, right - 1);
+        let right = noted(table[b])?;
+        return find(mem, 6, a, right);
     }
-    let left = table[a] as usize;
-    if left == 0 {
-        return 0;
-    }
+    let left = noted(table[a])?;
     if 10 < tag {
-        return number_of(mem, dual(tag), left - 1, 0);
+        return find(mem, dual(tag), left, 0);
     }
-    let right = table[b] as usize;
-    if right == 0 {
-        return 0;
-    }
-    number_of(mem, dual(tag), left - 1, right - 1)
+    let right = noted(table[b])?;
+    find(mem, dual(tag), left, right)
 }
 
 // `top`, made to lie above the left part of formula x where that is an implication.
@@ -91,6 +78,9 @@ pub fn negations(mem: &[u16], table: &mut [u16])
     ensures { Negated mem.now table.new }
 {
     for x in 0..top(mem) {
-        table[x] = negation(mem, table, x) as u16;
+        table[x] = match negation(mem, table, x) {
+            Some(i) => i as u16 + 1,
+            None => 0,
+        };
     }
 }

@@ -7,7 +7,7 @@ ghost use Rattle.expand.specs.Short.{rule_of, place_of, step};
 ghost use Rattle.expand.specs.Writing as writing;
 ghost use Rattle.expand.specs.Writing.{Sound, Means, FirstAt, Spellable, SpelledAs, SpellsOut, premise_counts, Stepping, first_of, Stepping₂, second_of};
 
-use super::negations::number_of;
+use held::entry::find;
 use held::words::field;
 use zones::Zones;
 
@@ -36,16 +36,15 @@ pub fn first_decomposable(mem: &[u16], z: Zones) -> usize
     n
 }
 
-// The number of the implication x spelled out at its top.
+// The number of the implication x spelled out at its top, which is held.
 fn spelled_number(mem: &[u16], negations: &[u16], x: usize) -> u16
     requires { Spellable mem.now negations.now x }
     ensures { SpelledAs mem.now x result }
 {
     let a = field(mem, x, 1);
     let b = field(mem, x, 2);
-    let left = negations[a] as usize;
-    let p = number_of(mem, 7, left - 1, b);
-    (p - 1) as u16
+    let left = negations[a] as usize - 1;
+    find(mem, 7, left, b).unwrap_or(0) as u16
 }
 
 // The sequent with the first decomposable formula spelled out, where that is an implication.
