@@ -2,4 +2,3 @@ pub mod RowSteps
 pub mod EntrySteps
 pub mod LoopSteps
 pub mod TurnSteps
-pub mod ZerosSteps

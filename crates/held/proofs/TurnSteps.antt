@@ -116,17 +116,11 @@ memo_more m memo x i z l l' u h = record { sized = length-set memo x (i + 1) ∙
         rw (w, q) (l, (u, h))
     go k v e (inr f) = z.known k v (sym (get_or-set_other memo x k (i + 1) 0 f) ∙ e)
 
-pub at_small : (m : List ℕ) (f : Formula) (r : Option ℕ) (i : ℕ) (m' : List ℕ) → AddedTo m f r m' → r ≡ Some i → i < 2048
-at_small m f r i m' x e = let w = rw e at x in lt_of_lt_of_le w.low w.wf.few
-
 pub finish_at : (m memo : List ℕ) (x t a b : ℕ) (r : Option ℕ) (i : ℕ) (m' : List ℕ) → Ready m memo x t a b → AddedTo m (node t a b (view m)) r m' → r ≡ Some i → Stored m (negate (told m x)) i m' × Memo m' (set memo x (i + 1))
 finish_at m memo x t a b r i m' z y e =
     let w : Stored m (negate (told m x)) i m' = rw (e, z.here) at y in
     let l = z.turn.low in
     (w, memo_more m' memo x i (memo_grows m m' memo w.grew z.turn.notes) (lt_of_lt_of_le l w.grew.more) (lt_of_lt_of_le l z.turn.wf.few) w.low (w.here ∙ ap negate (sym (keeps m m' w.grew x l))))
-
-pub finish_full : (m memo : List ℕ) (x t a b : ℕ) (r : Option ℕ) (m' : List ℕ) → Ready m memo x t a b → AddedTo m (node t a b (view m)) r m' → r ≡ None → NoRoom m (negate (told m x)) m'
-finish_full m memo x t a b r m' z y e = rw (e, z.here) at y
 
 -- what is held is entered already
 added_held : (m : List ℕ) (i : ℕ) → i < count m → add (told m i) (view m) ≡ view m
@@ -212,9 +206,6 @@ over_by m x m' gs z p l g =
     record { wf = z; grew = p; over = rw g (lt_of_lt_of_le l u) }
 
 module _ (m memo : List ℕ) (x t a b : ℕ) (z : Turn m memo x) (w : TwoAt m x t a b) where
-  pub two_first : (m₁ memo₁ : List ℕ) (i : ℕ) → Entered m (negate (told m a)) i m₁ × Memo m₁ memo₁ → Turn m₁ memo₁ b
-  two_first m₁ memo₁ i y = record { wf = y.0.wf; low = omega (arith, z.low, w.right, y.0.grew.more); notes = y.1 }
-
   pub two_over : (m₁ : List ℕ) → Over m (negate (told m a)) m₁ → Over m (negate (told m x)) m₁
   two_over m₁ y = over_by m x m₁ _ y.wf y.grew (lt_of_lt_of_le y.over (enter_longer (negate (told m b)) (enter (negate (told m a)) (view m)) (enter (negate (told m a)) (view m)) (omega arith))) (entered_mid m x t _ _ w.low w.high w.here)
 
@@ -267,9 +258,6 @@ module _ (m memo : List ℕ) (x t a : ℕ) (z : Turn m memo x) (w : SingleAt m x
 pub leaf_close : (m memo : List ℕ) (x t a : ℕ) (r : Option ℕ) (m₂ memo₂ : List ℕ) → Turn m memo x → LeafAt m x t a → Finished m x r m₂ memo₂ → Turned m (negate (told m x)) r m₂ memo₂
 leaf_close m memo x t a r m₂ memo₂ z w u = closing m x m r m₂ memo₂ z.low (extends_refl m) z.wf w.alone u
 
-pub leaf_ready : (m memo : List ℕ) (x t a : ℕ) → Turn m memo x → LeafAt m x t a → Ready m memo x t a 0
-leaf_ready m memo x t a z w = record { turn = z; next = w.next; here = w.here }
-
 -- the cases of an answer
 module _ (m : List ℕ) (x : ℕ) (r : Step) (y : StepOf m x r) where
   pub as_known : (i : ℕ) → r ≡ step.Known i → KnownAt m x i
@@ -293,9 +281,6 @@ turned_at m f r m' memo' i y e = rw e at y
 pub turned_full : (m : List ℕ) (f : Formula) (r : Option ℕ) (m' memo' : List ℕ) → Turned m f r m' memo' → r ≡ None → Over m f m'
 turned_full m f r m' memo' y e = rw e at y
 
-pub part_turn : (m memo : List ℕ) (x a : ℕ) → Turn m memo x → a < x → Turn m memo a
-part_turn m memo x a z l = record { wf = z.wf; low = omega (arith, z.low, l); notes = z.notes }
-
 -- the memo that knows nothing
 abbrev pub blank : ℕ → List ℕ
 blank n = replicate n 0
@@ -316,9 +301,6 @@ cut_refused m f r m₁ memo₁ m₂ z y e w = let o = turned_full m f r m₁ mem
 module _ (m : List ℕ) (x a b : ℕ) (z : Implication m x) (ea : a ≡ at m x 1) (eb : b ≡ at m x 2) where
   spell_row : RowOf m x 10 a b
   spell_row = row_of m x 10 a b z.wf z.low (sym z.lolli) ea eb
-
-  pub spell_part : a < count m
-  spell_part = omega (arith, row_left spell_row.row (omega arith), z.low)
 
   spell_right : b < count m
   spell_right = omega (arith, row_right spell_row.row (omega arith) (omega arith), z.low)
@@ -374,9 +356,6 @@ module _ (m : List ℕ) (x a b : ℕ) (z : Implication m x) (ea : a ≡ at m x 1
 
     spell_full : (r : Option ℕ) (m₂ : List ℕ) → AddedTo m₁ (node 7 i b (view m₁)) r m₂ → r ≡ None → NoRoom m₁ (spell (told m x)) m₂
     spell_full r m₂ w e = rw (e, spell_node) at w
-
-    pub spell_cut : (r : Option ℕ) (m₂ : List ℕ) → AddedTo m₁ (node 7 i b (view m₁)) r m₂ → r ≡ None → Wf m₂ × (count m ≤ count m₂)
-    spell_cut r m₂ w e = let v = spell_full r m₂ w e in rw v.same (y.wf, y.grew.more)
 
     pub spell_refused : (r : Option ℕ) (m₂ m₃ : List ℕ) → AddedTo m₁ (node 7 i b (view m₁)) r m₂ → r ≡ None → TakenBack m₂ (count m) m₃ → Refused m (spell (told m x)) m₃
     spell_refused r m₂ m₃ w e t =

@@ -1,16 +1,6 @@
 use borrow.Author.Rules.{rules}
-use native.Mathlib.Omega.{arith}
-use Rattle.held.proofs.TurnSteps.{as_known, as_leaf, as_half, as_two, as_single, turned_at, turned_full, turned_known, part_turn, leaf_ready, leaf_close, half_over, half_ready, half_close, two_first, two_over, two_over_2, two_ready, two_close, single_over, single_ready, single_close}
+use Rattle.held.proofs.TurnSteps.{as_known, as_leaf, as_half, as_two, as_single, turned_at, turned_full, turned_known, leaf_close, half_over, half_ready, half_close, two_over, two_over_2, two_ready, two_close, single_over, single_ready, single_close}
 use Rattle.held.proofs.turn.+negated.Goals as goal
-
-pub step_of-requires : goal.step_of-requires
-step_of-requires t c = c.requires
-
-pub finish-requires : goal.finish-requires
-finish-requires t c = leaf_ready _ _ _ _ _ c.requires (as_leaf _ _ c.step_of.result c.step_of.ensures _ _ c.in-Leaf.is)
-
-pub negated-requires : goal.negated-requires
-negated-requires t c = let w = (as_half _ _ c.step_of.result c.step_of.ensures _ _ c.in-Half.is) in (omega (arith, w.right, c.decreases), part_turn _ _ _ _ c.requires w.right)
 
 pub returns-in_err-nb-in-Half : goal.returns-in_err-nb-in-Half
 returns-in_err-nb-in-Half t c = let h = half_over _ _ _ _ _ c.requires (as_half _ _ c.step_of.result c.step_of.ensures _ _ c.in-Half.is) _ (turned_full _ _ c.negated.result _ _ c.negated.ensures c.in_err-nb-in-Half.was) in search rules
@@ -18,23 +8,14 @@ returns-in_err-nb-in-Half t c = let h = half_over _ _ _ _ _ c.requires (as_half 
 pub finish-requires-in-Half : goal.finish-requires-in-Half
 finish-requires-in-Half t c = half_ready _ _ _ _ _ c.requires (as_half _ _ c.step_of.result c.step_of.ensures _ _ c.in-Half.is) _ _ _ (turned_at _ _ c.negated.result _ _ _ c.negated.ensures c.in_ok-nb-in-Half.was)
 
-pub negated-requires-in-Two : goal.negated-requires-in-Two
-negated-requires-in-Two t c = let w = (as_two _ _ c.step_of.result c.step_of.ensures _ _ _ c.in-Two.is) in (omega (arith, w.left, c.decreases), part_turn _ _ _ _ c.requires w.left)
-
 pub returns-in_err-na-in-Two : goal.returns-in_err-na-in-Two
 returns-in_err-na-in-Two t c = let h = two_over _ _ _ _ _ _ c.requires (as_two _ _ c.step_of.result c.step_of.ensures _ _ _ c.in-Two.is) _ (turned_full _ _ c.negated-in-Two.result _ _ c.negated-in-Two.ensures c.in_err-na-in-Two.was) in search rules
-
-pub negated-requires-in-Two-2 : goal.negated-requires-in-Two-2
-negated-requires-in-Two-2 t c = let w = (as_two _ _ c.step_of.result c.step_of.ensures _ _ _ c.in-Two.is) in (omega (arith, w.right, c.decreases), two_first _ _ _ _ _ _ c.requires w _ _ _ (turned_at _ _ c.negated-in-Two.result _ _ _ c.negated-in-Two.ensures c.in_ok-na-in-Two.was))
 
 pub returns-in_err-nb-in-Two : goal.returns-in_err-nb-in-Two
 returns-in_err-nb-in-Two t c = let h = two_over_2 _ _ _ _ _ _ c.requires (as_two _ _ c.step_of.result c.step_of.ensures _ _ _ c.in-Two.is) _ _ _ _ (turned_at _ _ c.negated-in-Two.result _ _ _ c.negated-in-Two.ensures c.in_ok-na-in-Two.was) (turned_full _ _ c.negated-in-Two-2.result _ _ c.negated-in-Two-2.ensures c.in_err-nb-in-Two.was) in search rules
 
 pub finish-requires-in-Two : goal.finish-requires-in-Two
 finish-requires-in-Two t c = two_ready _ _ _ _ _ _ c.requires (as_two _ _ c.step_of.result c.step_of.ensures _ _ _ c.in-Two.is) _ _ _ _ _ _ (turned_at _ _ c.negated-in-Two.result _ _ _ c.negated-in-Two.ensures c.in_ok-na-in-Two.was) (turned_at _ _ c.negated-in-Two-2.result _ _ _ c.negated-in-Two-2.ensures c.in_ok-nb-in-Two.was)
-
-pub negated-requires-in-Single : goal.negated-requires-in-Single
-negated-requires-in-Single t c = let w = (as_single _ _ c.step_of.result c.step_of.ensures _ _ c.in-Single.is) in (omega (arith, w.left, c.decreases), part_turn _ _ _ _ c.requires w.left)
 
 pub returns-in_err-na-in-Single : goal.returns-in_err-na-in-Single
 returns-in_err-na-in-Single t c = let h = single_over _ _ _ _ _ c.requires (as_single _ _ c.step_of.result c.step_of.ensures _ _ c.in-Single.is) _ (turned_full _ _ c.negated-in-Single.result _ _ c.negated-in-Single.ensures c.in_err-na-in-Single.was) in search rules

@@ -1,11 +1,7 @@
 use native.Mathlib.Omega.{arith}
 use Rattle.held.proofs.TurnSteps.{row_of, step_known, step_leaf, step_two, step_half, step_single}
-use Rattle.held.specs.WordsLaws.{row_low}
 use mathlib.Core.Path.{refl}
 use Rattle.held.proofs.turn.step_of.Goals as goal
-
-pub overflow_cast-known : goal.overflow_cast-known
-overflow_cast-known c = omega (arith, c.type_inv.memo c.args.x)
 
 pub returns-then-known-ne0 : goal.returns-then-known-ne0
 returns-then-known-ne0 c = step_known _ _ _ _ c.requires refl c.if-known-ne0.true
@@ -18,9 +14,6 @@ returns-then-tag-lt10 c = step_two _ _ c.field-tag.result _ _ _ (row_of _ _ c.fi
 
 pub returns-then-tag-eq10 : goal.returns-then-tag-eq10
 returns-then-tag-eq10 c = step_half _ _ c.field-tag.result _ _ (row_of _ _ c.field-tag.result c.field-a.result c.field-b.result c.requires.wf c.requires.low c.field-tag.ensures.value c.field-a.ensures.value c.field-b.ensures.value) c.if-tag-eq10.true
-
-pub dual-requires-2 : goal.dual-requires-2
-dual-requires-2 c = row_low (row_of _ _ c.field-tag.result c.field-a.result c.field-b.result c.requires.wf c.requires.low c.field-tag.ensures.value c.field-a.ensures.value c.field-b.ensures.value).row
 
 pub returns : goal.returns
 returns c = step_single _ _ c.field-tag.result _ c.field-b.result _ (row_of _ _ c.field-tag.result c.field-a.result c.field-b.result c.requires.wf c.requires.low c.field-tag.ensures.value c.field-a.ensures.value c.field-b.ensures.value) (omega arith) c.if-tag-eq10.false c.dual-2.ensures
