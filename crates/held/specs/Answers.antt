@@ -28,6 +28,20 @@ abbrev pub Joined : ℕ → ℕ → ℕ → ℕ → Option Weight → Type 0
 Joined h₁ h₂ s₁ s₂ (Some w) = ((w.height ≡ 1 + max h₁ h₂) × (w.size ≡ 1 + s₁ + s₂)) × ((w.height ≤ 64) × (w.size < 65536))
 Joined h₁ h₂ s₁ s₂ None = 1 + max h₁ h₂ ≤ 64 → 1 + s₁ + s₂ < 65536 → ⊥
 
+-- a test answers p at each number below n
+abbrev pub Tested : (ℕ → Bool → Type 0) → (ℕ → Bool) → ℕ → Type 0
+Tested answers p n = (i : ℕ) (b : Bool) → i < n → answers i b → b ≡ p i
+
+-- no number below n passes after one that does not
+abbrev pub Falling : (ℕ → Bool) → ℕ → Type 0
+Falling p n = (i j : ℕ) → i ≤ j → j < n → p j ≡ true → p i ≡ true
+
+-- of the numbers below n those below r pass, and the others not
+pub record Halved (p : ℕ → Bool) (n r : ℕ) : Type 0 where
+  pub low : r ≤ n
+  pub below : (j : ℕ) → j < r → p j ≡ true
+  pub above : (j : ℕ) → r ≤ j → j < n → p j ≡ false
+
 -- of the first n order words, those below p have smaller codes than c, and the others not
 pub record Place (m : List ℕ) (n c p : ℕ) : Type 0 where
   pub low : p ≤ n
