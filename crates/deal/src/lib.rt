@@ -8,6 +8,14 @@ ghost use Rattle.std.specs.Prelude.{◌≤◌, length, drop};
 ghost use Rattle.deal.specs.Deal.{Answers};
 ghost use Rattle.deal.specs.Cells.{Cell, Putting, Put, Lesser, Sized, CellAt, CellReady, Before, After};
 
+// The items, and the two lists that they are dealt out to.
+#[derive(Clone, Copy)]
+struct Dealing<'a> {
+    others: &'a [u16],
+    l: &'a [u16],
+    r: &'a [u16],
+}
+
 // The mask where x goes to this side, whose items up to place i are dealt: x has to be the next one, and `rest` is the mask of the items after x.
 fn put(x: u16, side: &[u16], i: usize, rest: Option<u32>, bit: u32) -> Option<u32>
     requires { Putting side.now i rest bit }
@@ -34,47 +42,45 @@ fn lesser(a: Option<u32>, b: Option<u32>) -> Option<u32>
 
 // The least mask of the items that are left when i went to l and j to r, by the two cells after it.
 fn cell(
-    others: &[u16],
-    l: &[u16],
-    r: &[u16],
+    d: Dealing<'_>,
     i: usize,
     j: usize,
     below: Option<u32>,
     beside: Option<u32>,
 ) -> Option<u32>
-    requires { CellReady others.now l.now r.now i j below beside }
-    ensures { CellAt others.now l.now r.now i j result }
+    requires { CellReady d.others.now d.l.now d.r.now i j below beside }
+    ensures { CellAt d.entry.others.now d.entry.l.now d.entry.r.now i j result }
 {
     let k = i + j;
-    if k == others.len() {
+    if k == d.others.len() {
         return Some(0);
     }
-    let x = others[k];
-    let a = put(x, l, i, below, 0);
-    let b = put(x, r, j, beside, 1);
+    let x = d.others[k];
+    let a = put(x, d.l, i, below, 0);
+    let b = put(x, d.r, j, beside, 1);
     lesser(a, b)
 }
 
 // The cells at i from those at i + 1, from the last to the first.
-fn fill(others: &[u16], l: &[u16], r: &[u16], i: usize, row: &mut [Option<u32>; 32])
-    requires { Before others.now l.now r.now i row.old }
-    ensures { After others.now l.now r.now i row.new }
+fn fill(d: Dealing<'_>, i: usize, row: &mut [Option<u32>; 32])
+    requires { Before d.others.now d.l.now d.r.now i row.old }
+    ensures { After d.entry.others.now d.entry.l.now d.entry.r.now i row.new }
 {
     let mut v = None;
-    for j in (0..r.len() + 1).rev() {
-        v = cell(others, l, r, i, j, row[j], v);
+    for j in (0..d.r.len() + 1).rev() {
+        v = cell(d, i, j, row[j], v);
         row[j] = v;
     }
 }
 
 // The cell at the start: the least mask, or that there is none.
-fn table(others: &[u16], l: &[u16], r: &[u16]) -> Option<u32>
-    requires { Sized others.now l.now r.now }
-    ensures { Cell others.now l.now r.now result }
+fn table(d: Dealing<'_>) -> Option<u32>
+    requires { Sized d.others.now d.l.now d.r.now }
+    ensures { Cell d.entry.others.now d.entry.l.now d.entry.r.now result }
 {
     let mut row = [None; 32];
-    for i in (0..l.len() + 1).rev() {
-        fill(others, l, r, i, &mut row);
+    for i in (0..d.l.len() + 1).rev() {
+        fill(d, i, &mut row);
     }
     row[0]
 }
@@ -91,5 +97,5 @@ pub fn deal(others: &[u16], l: &[u16], r: &[u16]) -> Option<u32>
     if r.len() != n - l.len() {
         return None;
     }
-    table(others, l, r)
+    table(Dealing { others, l, r })
 }
