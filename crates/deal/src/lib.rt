@@ -21,10 +21,7 @@ fn put(x: u16, side: &[u16], i: usize, rest: Option<u32>, bit: u32) -> Option<u3
     requires { Putting side.now i rest bit }
     ensures { Put x (drop i side.now) rest bit result }
 {
-    if i >= side.len() {
-        return None;
-    }
-    if side[i] != x {
+    if side.get(i) != Some(&x) {
         return None;
     }
     Some(2 * rest? + bit)
@@ -41,13 +38,7 @@ fn lesser(a: Option<u32>, b: Option<u32>) -> Option<u32>
 }
 
 // The least mask of the items that are left when i went to l and j to r, by the two cells after it.
-fn cell(
-    d: Dealing<'_>,
-    i: usize,
-    j: usize,
-    below: Option<u32>,
-    beside: Option<u32>,
-) -> Option<u32>
+fn cell(d: Dealing<'_>, i: usize, j: usize, below: Option<u32>, beside: Option<u32>) -> Option<u32>
     requires { CellReady d.others.now d.l.now d.r.now i j below beside }
     ensures { CellAt d.entry.others.now d.entry.l.now d.entry.r.now i j result }
 {
