@@ -42,7 +42,7 @@ fn labels_of(mem: &[u16], z: Zones, s: &[u8], zone: Span, numbers: &mut [u16; 31
     let end = zone.end;
     let mut p = zone.start;
     let mut n = 0;
-    // From formula to formula: where one ends is known when it is read.
+    // From formula to formula: no `for` over the bytes.
     while p < end {
         let next = next_formula(s, p, end);
         if next == end {
