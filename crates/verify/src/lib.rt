@@ -15,6 +15,8 @@ ghost use Rattle.verify.specs.declared.Rejected.TheVariants.{Refused};
 
 use formula::Refusal;
 use rule::Rule;
+use std::error::Error;
+use std::fmt;
 use tree::{HIGHEST_TREE, Node, Span};
 
 // Which test of a rule comes first: its shape or its premises' count.
@@ -63,7 +65,34 @@ impl From<Refusal> for Rejected {
     }
 }
 
-// A part of the tree that passed: the next place and the next node's number.
+impl fmt::Display for Rejected {
+    fn fmt<W: fmt::Write>(&self, f: &mut fmt::Formatter<W>) -> fmt::Result {
+        match self {
+            Rejected::Refused(why) => write!(f, "{why}"),
+            Rejected::Invalid { rule, node, .. } => write!(
+                f,
+                "node {node}: rule {rule} does not fit"
+            ),
+            Rejected::WrongCount {
+                rule,
+                node,
+                expected,
+                got,
+                ..
+            } => write!(
+                f,
+                "node {node}: rule {rule} takes {expected} premises, not {got}"
+            ),
+            Rejected::Mismatch { rule, node, .. } => {
+                write!(f, "node {node}: no step of rule {rule}")
+            }
+        }
+    }
+}
+
+impl Error for Rejected {}
+
+// How far a walk has passed: the next place and the next node's number.
 #[derive(Clone, Copy, Debug, PartialEq, Eq)]
 pub struct Passed {
     pub next: usize,
@@ -206,49 +235,43 @@ fn told(fault: Fault, rule: u8, node: usize, wrappers: usize) -> Rejected
 #[cycle(verify_node_verify_premises)]
 fn verify_node(
     s: &[u8],
-    at: usize,
+    from: Passed,
     is_strict: bool,
     levels: usize,
-    number: usize,
     wrappers: usize,
 ) -> Result<Passed, Rejected>
-    requires { (at ≤ length s.now) × (number ≤ at) × (wrappers + levels ≤ 65) × Short s.now }
-    ensures { Walk (mode_test is_strict) s.now at levels number wrappers result }
+    requires { (from.next ≤ length s.now) × (from.number ≤ from.next) × (wrappers + levels ≤ 65) × Short s.now }
+    ensures { Walk (mode_test is_strict) s.now from.next levels from.number wrappers result }
 {
-    if levels == 0 || at == s.len() {
-        return Ok(Passed { next: at, number });
+    if levels == 0 || from.next == s.len() {
+        return Ok(from);
     }
-    let n = tree::node_at(s, at);
+    let n = tree::node_at(s, from.next);
     if let Some(fault) = fault_at(s, n, is_strict) {
-        return Err(told(fault, n.rule, number, wrappers));
+        return Err(told(fault, n.rule, from.number, wrappers));
     }
-    verify_premises(
-        s,
-        n.next,
-        n.premises,
-        is_strict,
-        levels - 1,
-        number + 1,
-        wrappers + 1,
-    )
+    let first = Passed {
+        next: n.next,
+        number: from.number + 1,
+    };
+    verify_premises(s, first, n.premises, is_strict, levels - 1, wrappers + 1)
 }
 
 #[cycle(verify_node_verify_premises)]
 fn verify_premises(
     s: &[u8],
-    at: usize,
+    from: Passed,
     count: usize,
     is_strict: bool,
     levels: usize,
-    number: usize,
     wrappers: usize,
 ) -> Result<Passed, Rejected>
-    requires { (at ≤ length s.now) × (number ≤ at) × (wrappers + levels ≤ 65) × Short s.now }
-    ensures { PremisesWalk (mode_test is_strict) s.now at count levels number wrappers result }
+    requires { (from.next ≤ length s.now) × (from.number ≤ from.next) × (wrappers + levels ≤ 65) × Short s.now }
+    ensures { PremisesWalk (mode_test is_strict) s.now from.next count levels from.number wrappers result }
 {
-    let mut passed = Passed { next: at, number };
+    let mut passed = from;
     for _ in 0..count {
-        passed = verify_node(s, passed.next, is_strict, levels, passed.number, wrappers)?;
+        passed = verify_node(s, passed, is_strict, levels, wrappers)?;
     }
     Ok(passed)
 }
@@ -258,7 +281,8 @@ fn verify_in(s: &[u8], is_strict: bool) -> Result<(), Rejected>
     ensures { result ≡ checked (mode_test is_strict) (read_tree s.now) }
 {
     tree::read_tree(s)?;
-    verify_node(s, 3, is_strict, HIGHEST_TREE, 0, 0)?;
+    let root = Passed { next: 3, number: 0 };
+    verify_node(s, root, is_strict, HIGHEST_TREE, 0)?;
     Ok(())
 }
 

@@ -1,12 +1,12 @@
 use Rattle.std.proofs.Common.{rules, ◌≡◌, ◌+◌, ◌-◌, arith}
 use Rattle.verify.specs.WalksLaws.{walk_no_level, walk_no_byte, walk_failed, walk_premises, walking_start, walking_end, walking_failed, walking_next}
 use Rattle.verify.proofs.+verify_node_verify_premises.Goals as goal
-use Rattle.verify.proofs.+verify_node_verify_premises.Goals.{verify_node-then-levels-eq0-via-then-levels-eq0, verify_node-then-levels-eq0-via-else-levels-eq0+then-at-s}
+use Rattle.verify.proofs.+verify_node_verify_premises.Goals.{verify_node-then-levels-eq0-via-then-levels-eq0, verify_node-then-levels-eq0-via-else-levels-eq0+then-from-s}
 
 pub verify_node-returns-then-levels-eq0 : goal.verify_node-returns-then-levels-eq0
 verify_node-returns-then-levels-eq0 t c = elim c.then-levels-eq0.branch [
   | verify_node-then-levels-eq0-via-then-levels-eq0 w ↦ walk_no_level _ _ _ _ _ _ c.requires.0 c.requires.1 w.if-levels-eq0.true
-  | verify_node-then-levels-eq0-via-else-levels-eq0+then-at-s w ↦ walk_no_byte _ _ _ _ _ _ c.requires.0 c.requires.1 w.if-at-s.true
+  | verify_node-then-levels-eq0-via-else-levels-eq0+then-from-s w ↦ walk_no_byte _ _ _ _ _ _ c.requires.0 c.requires.1 w.if-from-s.true
 ]
 
 pub verify_node-returns-in-Some : goal.verify_node-returns-in-Some

@@ -10,4 +10,4 @@ abbrev pub decreases-verify_premises : goal.decreases-verify_premises
 decreases-verify_premises l = 2 * l.levels + 1
 
 abbrev pub invariant-verify_premises-loop : goal.invariant-verify_premises-loop
-invariant-verify_premises-loop l = Walking (mode_test l.is_strict) l.s l.at l.count l.levels l.number l.wrappers (l.count - l.counter) l.passed.next l.passed.number
+invariant-verify_premises-loop l = Walking (mode_test l.is_strict) l.s l.fn.from.next l.count l.levels l.fn.from.number l.wrappers (l.count - l.counter) l.passed.next l.passed.number
