@@ -13,7 +13,7 @@ use bags::{How, Place, Run};
 use rule::Rule;
 use tree::{Node, Span};
 
-// The linear zone, as strict mode reads it, and the unrestricted zone.
+// The linear zone, as strict mode reads it, and the unrestricted zone. Two functions: the steps below say by name which zone they compare.
 fn linear(n: Node) -> Run
     ensures { LinearRun n result }
 {
@@ -199,6 +199,7 @@ fn takes_out(s: &[u8], f: Principal, q: Node, p: Node) -> bool
     bags::same_bag(s, &[unrestricted(q)], &[plain(f.whole), unrestricted(p)])
 }
 
+// Three rules, each with its own premise's linear zone: one function would only be passed that zone.
 fn weakening_step(s: &[u8], f: Principal, q: Node, p: Node) -> bool
     requires { Ready s.now f q p }
     ensures { StepIs s.now f q p weakening_step result }
@@ -286,6 +287,7 @@ fn one_premise(s: &[u8], q: Node) -> bool
     ensures { OnePremise s.now q result }
 {
     let p = tree::node_at(s, q.next);
+    // The rules past WhyNotIntro work on the unrestricted zone.
     let why_not = u8::from(Rule::WhyNotIntro);
     if q.rule > why_not {
         return some_step(s, q.unrestricted, q, p, p);

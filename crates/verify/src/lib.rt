@@ -191,7 +191,7 @@ fn shape_fault(s: &[u8], n: Node) -> Option<Fault>
     }
 }
 
-// The fault at a node: shape mode's, and in strict mode, where there is none, a mismatch unless the step is legal.
+// The fault at a node: shape mode's, and in strict mode, where there is none, a mismatch unless the step is legal. The mode is a flag, as the promise's `mode_test` takes it.
 fn fault_at(s: &[u8], n: Node, is_strict: bool) -> Option<Fault>
     requires { Short s.now × NodeInside (length s.now) n }
     ensures { Faulted (mode_test is_strict) s.now n result }
