@@ -5,12 +5,12 @@ ghost use Rattle.std.specs.Prelude.{◌≡◌, ◌≤◌, IfOk, length};
 ghost use Rattle.std.specs.Counts.{IsPrefixLen};
 ghost use Rattle.tree.specs.Places.{NodeFound};
 
-use formula::Written;
 use prover::Answer;
+use rule::Rule;
 use search::counters::Counters;
 use std::io;
 use std::io::Read;
-use tree::Node;
+use tree::{Node, Span};
 
 const DEPTH: usize = 32;
 
@@ -25,95 +25,27 @@ const TEXT: usize = 327695;
 // A tree has at most 65 levels; one more is where the premises of its highest leaves would stand.
 const LEVELS: usize = 66;
 
-fn put(rt: &impl Print, text: &[u8]) -> io::Result<()> {
-    rt.write_all(text)
-}
-
-fn put_number(rt: &impl Print, n: usize) -> io::Result<()> {
-    print!(rt; "{n}")
-}
-
-// The names of proof.rs: the last three rules, of focusing.
-fn put_focus(rt: &impl Print, rule: u8) -> io::Result<()> {
-    match rule {
-        15 => put(rt, b"FocusPositive"),
-        16 => put(rt, b"FocusNegative"),
-        _ => put(rt, b"Blur"),
-    }
-}
-
-// From the exponential rules on.
-fn put_exponential(rt: &impl Print, rule: u8) -> io::Result<()> {
-    match rule {
-        10 => put(rt, b"OfCourseIntro"),
-        11 => put(rt, b"WhyNotIntro"),
-        12 => put(rt, b"Weakening"),
-        13 => put(rt, b"Contraction"),
-        14 => put(rt, b"Dereliction"),
-        _ => put_focus(rt, rule),
-    }
-}
-
-// From the additive rules on.
-fn put_additive(rt: &impl Print, rule: u8) -> io::Result<()> {
-    match rule {
-        6 => put(rt, b"TopIntro"),
-        7 => put(rt, b"WithIntro"),
-        8 => put(rt, b"PlusIntroLeft"),
-        9 => put(rt, b"PlusIntroRight"),
-        _ => put_exponential(rt, rule),
-    }
-}
-
-fn put_rule(rt: &impl Print, rule: u8) -> io::Result<()> {
-    match rule {
-        0 => put(rt, b"Axiom"),
-        1 => put(rt, b"Cut"),
-        2 => put(rt, b"OneIntro"),
-        3 => put(rt, b"BottomIntro"),
-        4 => put(rt, b"TensorIntro"),
-        5 => put(rt, b"ParIntro"),
-        _ => put_additive(rt, rule),
-    }
-}
-
+// The formula's text; nothing where it has none.
 fn put_formula(rt: &impl Print, formula: &[u8], text: &mut [u8]) -> io::Result<()> {
-    let Written::Bytes(n) = print::pretty_ascii(formula, text) else {
+    let Ok(n) = print::pretty_ascii(formula, text) else {
         return Ok(());
     };
-    put(rt, &text[..n])
+    rt.write_all(&text[..n])
 }
 
-// The formulas from `start` to `end`.
-fn put_zone(rt: &impl Print, s: &[u8], start: usize, end: usize, text: &mut [u8]) -> io::Result<()>
-    requires { (start ≤ end) × (end ≤ length s.now) }
+fn put_zone(rt: &impl Print, s: &[u8], zone: Span, text: &mut [u8]) -> io::Result<()>
+    requires { (zone.start ≤ zone.end) × (zone.end ≤ length s.now) }
 {
-    let mut p = start;
-    while p < end {
-        if start < p {
-            put(rt, b", ")?;
+    let mut p = zone.start;
+    while p < zone.end {
+        if zone.start < p {
+            rt.write_all(b", ")?;
         }
-        let next = tree::next_formula(s, p, end);
+        let next = tree::next_formula(s, p, zone.end);
         put_formula(rt, &s[p..next], text)?;
         p = next;
     }
     Ok(())
-}
-
-fn put_unrestricted(
-    rt: &impl Print,
-    s: &[u8],
-    start: usize,
-    end: usize,
-    text: &mut [u8],
-) -> io::Result<()>
-    requires { (start ≤ end) × (end ≤ length s.now) }
-{
-    if start == end {
-        return Ok(());
-    }
-    put(rt, b" ; ")?;
-    put_zone(rt, s, start, end, text)
 }
 
 // The line of the node at a place, so far from the root.
@@ -128,13 +60,14 @@ fn put_node(
     ensures { IfOk result (λ n. NodeFound s.now at n) }
 {
     let n = tree::node_at(s, at);
-    put_number(rt, distance)?;
-    put(rt, b" ")?;
-    put_rule(rt, n.rule)?;
-    put(rt, b" ")?;
-    put_zone(rt, s, n.linear.start, n.linear.end, text)?;
-    put_unrestricted(rt, s, n.unrestricted.start, n.unrestricted.end, text)?;
-    put(rt, b"\n")?;
+    let rule = Rule::try_from(n.rule).unwrap_or(Rule::Blur);
+    print!(rt; "{distance} {rule} ")?;
+    put_zone(rt, s, n.linear, text)?;
+    if n.unrestricted.start < n.unrestricted.end {
+        rt.write_all(b" ; ")?;
+    }
+    put_zone(rt, s, n.unrestricted, text)?;
+    println!(rt)?;
     Ok(n)
 }
 
@@ -164,18 +97,12 @@ fn put_tree(rt: &impl Print, s: &[u8], text: &mut [u8]) -> io::Result<()> {
     Ok(())
 }
 
-// A number behind its name.
-fn put_named(rt: &impl Print, name: &[u8], n: usize) -> io::Result<()> {
-    put(rt, name)?;
-    put_number(rt, n)
-}
-
 fn put_answer(rt: &impl Print, number: u8, c: Counters) -> io::Result<()> {
-    put_named(rt, b"answer ", number as usize)?;
-    put_named(rt, b"\nexplored ", c.explored)?;
-    put_named(rt, b" hits ", c.hits)?;
-    put_named(rt, b" depth ", c.reached)?;
-    put(rt, b"\n")
+    println!(rt; "answer {number}")?;
+    println!(rt;
+        "explored {} hits {} depth {}",
+        c.explored, c.hits, c.reached
+    )
 }
 
 // The answer in a memory that holds nothing. The tree goes to the front of `tree`.
@@ -228,6 +155,6 @@ fn main(rt: HostRuntime) -> io::Result<()> {
             put_nodes(&rt, &tree)
         }
         Answer::Nothing(c) => put_answer(&rt, 1, c),
-        Answer::Refused(why, c) => put_answer(&rt, formula::number(why), c),
+        Answer::Refused(why, c) => put_answer(&rt, u8::from(why), c),
     }
 }

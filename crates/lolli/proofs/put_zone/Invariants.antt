@@ -3,7 +3,7 @@ use Rattle.std.proofs.Common.{◌-◌, ◌≤◌}
 use Rattle.lolli.proofs.put_zone.Given as goal
 
 abbrev pub invariant-loop-p : goal.invariant-loop-p
-invariant-loop-p g l = (l.start ≤ l.p) × (l.p ≤ l.end)
+invariant-loop-p g l = (l.zone.start ≤ l.p) × (l.p ≤ l.zone.end)
 
 abbrev pub decreases-loop-p : goal.decreases-loop-p
-decreases-loop-p g l = l.end - l.p
+decreases-loop-p g l = l.zone.end - l.p
