@@ -12,7 +12,7 @@ use Rattle.logic.proofs.Bags.{same_bag_iff, same_length, counts_itself}
 use Rattle.bags.specs.ReadingLaws.{same_test}
 use Rattle.bags.specs.Runs.{BagReads, LongIn, agree_on, Agrees, BagsSame}
 use Rattle.bags.specs.Walks.{AgreeingAll}
-use Rattle.bags.specs.WalksLaws.{runs_start, runs_here, runs_next, runs_end}
+use Rattle.bags.specs.WalksLaws.{runs_here, runs_next, runs_end}
 use Rattle.bags.specs.declared.Run.{Run}
 
 -- each formula of the first list stands equally often in the other two
@@ -113,9 +113,6 @@ module _ (s : List ℕ) (x y : List Run) {m n : ℕ} (long_x : LongIn s x m) (lo
       all_runs h = record { right = λ xs ys x_is y_is. sym (runs_end s x h t.walk xs x_is xs ys x_is y_is) ∙ each xs ys x_is y_is }
 
 module _ (s : List ℕ) (x y : List Run) where
-  pub agreeing_all_start : AgreeingAll s x 0 x y
-  agreeing_all_start = record { walk = runs_start s x λ fs xs ys x_is y_is. refl }
-
   pub agreeing_all_next : {i : ℕ} (d : Run) {r : Bool} → i < length x → AgreeingAll s x i x y → Agrees s (get_or x i d) x y r → r ≡ true → AgreeingAll s x (i + 1) x y
   agreeing_all_next d h t agrees e = record {
     walk = runs_next s x d h t.walk λ fs gs rest reads so xs ys x_is y_is.

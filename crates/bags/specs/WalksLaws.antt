@@ -146,9 +146,6 @@ module _ (s : List ℕ) (x y : List Run) (end : ℕ) (how : How) where
 -- ---- from run to run
 
 module _ (s : List ℕ) (bag : List Run) where
-  pub runs_start : {P : List Formula → List Formula → Type 0} → ((fs : List Formula) → P fs fs) → RunsWalk s bag 0 P
-  runs_start h = record { left = λ fs read. record { rest = fs; read = read; so = h fs } }
-
   module _ {i : ℕ} {P : List Formula → List Formula → Type 0} where
     pub runs_here : (d : Run) → i < length bag → RunsWalk s bag i P → (fs : List Formula) → BagReads s bag fs → RunHere s bag i (get_or bag i d) (P fs)
     runs_here d h walk fs read =
@@ -173,9 +170,6 @@ module _ (s : List ℕ) (bag : List Run) where
 
 -- how often a formula stands in a multiset
 module _ (s : List ℕ) (bag : List Run) (x : Place) where
-  pub timing_all_start : TimingAll s bag 0 x 0
-  timing_all_start = record { few = omega arith; walk = runs_start s bag λ fs f here. omega arith }
-
   module _ {i n : ℕ} (t : TimingAll s bag i x n) where
     pub timing_all_next : (d : Run) {k : ℕ} → Short s → i < length bag → Counts s (get_or bag i d) x k → TimingAll s bag (i + 1) x (n + k)
     timing_all_next d {k} short h counts = record {
@@ -190,9 +184,6 @@ module _ (s : List ℕ) (bag : List Run) (x : Place) where
 
 -- how many formulas a multiset has
 module _ (s : List ℕ) (bag : List Run) where
-  pub counting_all_start : CountingAll s bag 0 0
-  counting_all_start = record { few = omega arith; walk = runs_start s bag λ fs. omega arith }
-
   module _ {i n : ℕ} (t : CountingAll s bag i n) where
     pub counting_all_next : (d : Run) {k : ℕ} → Short s → i < length bag → Long s (get_or bag i d) k → CountingAll s bag (i + 1) (n + k)
     counting_all_next d {k} short h long = record {

@@ -1,4 +1,4 @@
-use Rattle.bags.specs.ComparedLaws.{after_inside, compare_none, compare_told, compare_one, compare_left, compare_two}
+use Rattle.bags.specs.ComparedLaws.{compare_none, compare_one, compare_left, compare_two}
 use borrow.Author.Rules.{rules}
 use native.Mathlib.Omega.{arith}
 use Rattle.bags.proofs.+compare.Goals as goal
@@ -8,12 +8,6 @@ returns-then-levels-eq0 t c = rw c.if-levels-eq0.true (compare_none _ _ _)
 
 pub returns-in_err-a-in-Two : goal.returns-in_err-a-in-Two
 returns-in_err-a-in-Two t c = let h = compare_left _ _ _ c.compare_tops.ensures (omega (arith, c.if-levels-eq0.false)) c.left-in-Two.ensures c.left-in-Two-2.ensures c.compare-in-Two.ensures c.in-Two.is c.in_err-a-in-Two.was in let h = rw c.in_err-a-in-Two.was at h in search rules
-
-pub compare-requires-in-Two-2 : goal.compare-requires-in-Two-2
-compare-requires-in-Two-2 t c = (search rules, after_inside c.compare-in-Two.ensures c.in_ok-a-in-Two.was c.right.ensures c.right-in-Two.ensures)
-
-pub returns-in-Told : goal.returns-in-Told
-returns-in-Told t c = compare_told _ _ _ c.compare_tops.ensures c.in-Told.is
 
 pub returns-in-One : goal.returns-in-One
 returns-in-One t c = compare_one _ _ _ c.compare_tops.ensures (omega (arith, c.if-levels-eq0.false)) c.left.ensures c.left-in-One.ensures c.compare.ensures c.in-One.is

@@ -1,9 +1,6 @@
-use Rattle.bags.specs.WalksLaws.{agreeing_start, agreeing_next, agreeing_stops, agreeing_end}
+use Rattle.bags.specs.WalksLaws.{agreeing_next, agreeing_stops, agreeing_end}
 use mathlib.Core.Path.{refl}
 use Rattle.bags.proofs.agree_on.Goals as goal
-
-pub loop-p-init : goal.loop-p-init
-loop-p-init c = agreeing_start _ _ _ _ _ _
 
 pub returns-then-times_in : goal.returns-then-times_in
 returns-then-times_in c = agreeing_stops _ _ _ _ _ c.loop-p.invariant refl refl c.times_in.ensures c.times_in-in-loop-p.ensures c.loop-p-test.true c.if-times_in.true refl refl refl

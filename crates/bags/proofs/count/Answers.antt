@@ -1,9 +1,6 @@
-use Rattle.bags.specs.WalksLaws.{counting_start, counting_next, counting_end}
+use Rattle.bags.specs.WalksLaws.{counting_next, counting_end}
 use mathlib.Core.Path.{refl}
 use Rattle.bags.proofs.count.Goals as goal
-
-pub loop-p-init : goal.loop-p-init
-loop-p-init c = counting_start _ _ _ c.requires.at_inside
 
 pub loop-p-preserved : goal.loop-p-preserved
 loop-p-preserved c = counting_next _ _ c.loop-p.invariant c.loop-p-test.true c.requires.end_inside c.next_formula-p.ensures

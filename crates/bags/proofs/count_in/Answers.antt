@@ -1,8 +1,5 @@
-use Rattle.bags.specs.WalksLaws.{counting_all_start, counting_all_next, counting_all_end}
+use Rattle.bags.specs.WalksLaws.{counting_all_next, counting_all_end}
 use Rattle.bags.proofs.count_in.Goals as goal
-
-pub loop-run-init : goal.loop-run-init
-loop-run-init c = counting_all_start _ _
 
 pub loop-run-preserved : goal.loop-run-preserved
 loop-run-preserved c = counting_all_next _ _ c.loop-run.invariant _ c.requires.0 c.loop-run-test.true c.count-n.ensures

@@ -1,9 +1,6 @@
-use Rattle.bags.specs.WalksLaws.{timing_start, timing_next, timing_end}
+use Rattle.bags.specs.WalksLaws.{timing_next, timing_end}
 use mathlib.Core.Path.{refl}
 use Rattle.bags.proofs.times.Goals as goal
-
-pub loop-p-init : goal.loop-p-init
-loop-p-init c = timing_start _ _ _ _ _ c.requires.0.at_inside
 
 pub loop-p-preserved : goal.loop-p-preserved
 loop-p-preserved c = timing_next _ _ _ _ c.loop-p.invariant c.loop-p-test.true c.requires.0.end_inside c.once-n.ensures refl refl refl c.next_formula-p.ensures

@@ -1,8 +1,5 @@
-use Rattle.bags.specs.WalksLaws.{timing_all_start, timing_all_next, timing_all_end}
+use Rattle.bags.specs.WalksLaws.{timing_all_next, timing_all_end}
 use Rattle.bags.proofs.times_in.Goals as goal
-
-pub loop-run-init : goal.loop-run-init
-loop-run-init c = timing_all_start _ _ _
 
 pub loop-run-preserved : goal.loop-run-preserved
 loop-run-preserved c = timing_all_next _ _ _ c.loop-run.invariant _ c.requires.0 c.loop-run-test.true c.times-n.ensures

@@ -1,7 +1,6 @@
 use native.Mathlib.Omega.{arith}
-use native.Mathlib.Numerals.{unary_clauses}
 use borrow.Author.Rules.{rules}
-use Rattle.tree.specs.ReadingLaws.{node_none, node_too_high, node_head_refused, head_landed, node_premise_refused, premises_landed, node_read, reading_start, reading_end, reading_refused, reading_next}
+use Rattle.tree.specs.ReadingLaws.{node_none, node_too_high, node_head_refused, head_landed, node_premise_refused, premises_landed, node_read, reading_end, reading_refused, reading_next}
 use Rattle.tree.proofs.+read_node_read_premises.Goals as goal
 
 pub read_node-returns-then-at-s : goal.read_node-returns-then-at-s
@@ -24,9 +23,6 @@ read_node-returns-in_err-below t c = let h = node_premise_refused c.args.s.now c
 
 pub read_node-returns : goal.read_node-returns
 read_node-returns t c = node_read c.args.s.now c.args.at c.args.levels (omega (arith, c.if-at-s.false, c.requires.0)) (omega (arith, c.if-levels-eq0.false)) c.read_head.ensures c.in_ok-own.was c.read_premises.ensures c.in_ok-below.was
-
-pub read_premises-loop-init : goal.read_premises-loop-init
-read_premises-loop-init t c = simp unary_clauses (reading_start _ _ _ _ c.requires.0)
 
 pub read_premises-returns-in_err-tree : goal.read_premises-returns-in_err-tree
 read_premises-returns-in_err-tree t c = let h = reading_refused _ _ _ _ c.loop.invariant (omega (arith, c.loop-test.true)) c.read_node.ensures c.in_err-tree.was in search rules

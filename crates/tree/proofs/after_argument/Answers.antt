@@ -5,14 +5,11 @@ use native.Mathlib.Omega.{arith}
 use Rattle.rule.specs.Numbers.{number_of}
 use Rattle.rule.specs.NumbersLaws.{one_rule, below_18, one_of_two}
 use Rattle.rule.specs.declared.Rule.TheVariants.{Cut, FocusPositive, FocusNegative}
-use Rattle.tree.specs.PlacesLaws.{argument_none, argument_lacking, argument_formula, argument_two}
+use Rattle.tree.specs.PlacesLaws.{argument_none, argument_formula, argument_two}
 use Rattle.tree.proofs.after_argument.Goals as goal
 
 pub returns-in_default : goal.returns-in_default
 returns-in_default c = argument_none c.args.s.now c.args.at c.args.rule c.requires (λ e. omega (arith, e, c.in_default.ensures.1)) (inr (omega (arith, c.in_default.ensures.1)))
-
-pub returns-then-at-s : goal.returns-then-at-s
-returns-then-at-s c = argument_lacking c.args.s.now c.args.at c.args.rule c.requires (sym c.in-Ok.ensures ∙ ap number_of c.in-Cut.is) c.if-at-s.true
 
 pub returns-else-at-s : goal.returns-else-at-s
 returns-else-at-s c = argument_formula c.args.s.now c.args.at c.args.rule c.requires (sym c.in-Ok.ensures ∙ ap number_of c.in-Cut.is) c.next_formula.ensures

@@ -1,16 +1,10 @@
 use native.Mathlib.Omega.{arith}
 use borrow.Author.Rules.{rules}
-use Rattle.tree.specs.ReadingLaws.{counting_start, counting_end, counting_refused, counting_further, counting_next}
+use Rattle.tree.specs.ReadingLaws.{counting_end, counting_refused, counting_further, counting_next}
 use Rattle.tree.proofs.read_formulas.Goals as goal
-
-pub loop-p-init : goal.loop-p-init
-loop-p-init c = counting_start _ _ _ c.requires.1 c.requires.0
 
 pub returns-in_err-p : goal.returns-in_err-p
 returns-in_err-p c = let h = counting_refused _ _ _ c.requires.1 c.loop-p-test.true c.loop-p.invariant c.read_formula.ensures c.in_err-p.was in search rules
-
-pub overflow_add-count : goal.overflow_add-count
-overflow_add-count c = let next = counting_next _ _ _ c.requires.1 c.loop-p-test.true c.loop-p.invariant (record { byte = λ k. (c.type_inv.s k).fits }) c.read_formula.ensures c.in_ok-p.was in omega arith
 
 pub loop-p-smaller : goal.loop-p-smaller
 loop-p-smaller c = let more = counting_further _ _ _ c.requires.1 c.loop-p-test.true c.loop-p.invariant (record { byte = λ k. (c.type_inv.s k).fits }) c.read_formula.ensures c.in_ok-p.was in omega arith
