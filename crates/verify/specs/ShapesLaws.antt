@@ -147,27 +147,43 @@ module _ (expected given : ℕ) where
   unfolding fault_of
   count_wrong e = sym (ap fault_of (differ (logic.wrong_premise_count expected given) none e))
 
+  -- a shape that is there, and one that is not
+  pub order_shaped : (first : Order) {is_shaped : Bool} {x : code.Option Fault} → is_shaped ≡ true → x ≡ fault_of (need_premises expected given none) → x ≡ fault_of (in_order first is_shaped expected given)
+  order_shaped order.Shape e h = rw e h
+  order_shaped order.Count e h = rw e h
+
+  pub order_unshaped : {first : Order} {is_shaped : Bool} → is_shaped ≡ false → first ≡ order.Shape → Some fault.Invalid ≡ fault_of (in_order first is_shaped expected given)
+  unfolding fault_of
+  order_unshaped e k = rw (e, k)
+
+  pub order_counted : {first : Order} {is_shaped : Bool} → is_shaped ≡ false → first ≡ order.Count → given ≡ expected → Some fault.Invalid ≡ fault_of (in_order first is_shaped expected given)
+  unfolding fault_of
+  order_counted e k h = rw (e, k) (sym (ap fault_of (agree (logic.wrong_premise_count expected given) (some logic.invalid_rule) h)))
+
+  pub order_miscounted : {first : Order} {is_shaped : Bool} → is_shaped ≡ false → first ≡ order.Count → (given ≡ expected → ⊥) → Some (fault.Count expected given) ≡ fault_of (in_order first is_shaped expected given)
+  unfolding fault_of
+  order_miscounted e k h = rw (e, k) (sym (ap fault_of (differ (logic.wrong_premise_count expected given) (some logic.invalid_rule) h)))
+
   -- the fault of a shape that is not there, and that of a count, in the rule's order
   module _ (is_shaped : Bool) {x y : code.Option Fault} (shape : x ≡ then_some (not is_shaped) fault.Invalid) (count : y ≡ fault_of (need_premises expected given none)) where
     pub order_shape : option_or x y ≡ fault_of (in_order order.Shape is_shaped expected given)
-    unfolding fault_of
-    order_shape = rw (shape, count) (go is_shaped)
+    order_shape = rw shape (go is_shaped)
       where
-        go : (b : Bool) → option_or (then_some (not b) fault.Invalid) (fault_of (need_premises expected given none)) ≡ fault_of (in_order order.Shape b expected given)
-        go true = refl
-        go false = refl
+        go : (b : Bool) → option_or (then_some (not b) fault.Invalid) y ≡ fault_of (in_order order.Shape b expected given)
+        go true = order_shaped order.Shape refl count
+        go false = order_unshaped refl refl
 
     pub order_count : option_or y x ≡ fault_of (in_order order.Count is_shaped expected given)
-    unfolding fault_of
-    order_count = rw (shape, count) (go is_shaped (eqb given expected))
+    order_count = rw shape (go is_shaped (eqb given expected) refl)
       where
-        wrong : logic.Fault
-        wrong = logic.wrong_premise_count expected given
+        or_none : (o : code.Option Fault) → option_or o None ≡ o
+        or_none None = refl
+        or_none (Some f) = refl
 
-        go : (b c : Bool) → option_or (fault_of (need c wrong none)) (then_some (not b) fault.Invalid) ≡ fault_of (need c wrong (need_shape b none))
-        go b false = refl
-        go true true = refl
-        go false true = refl
+        go : (b c : Bool) → eqb given expected ≡ c → option_or y (then_some (not b) fault.Invalid) ≡ fault_of (in_order order.Count b expected given)
+        go true c e = order_shaped order.Count refl (or_none y ∙ count)
+        go false true e = let h = eqb-true given expected e in rw (count ∙ sym (count_passed h)) (order_counted refl refl h)
+        go false false e = let h = eqb-false given expected e in rw (count ∙ sym (count_wrong h)) (order_miscounted refl refl h)
 
   -- the shape's own answer in its place
   pub order_answer : (first : Order) {b b' : Bool} {x : code.Option Fault} → x ≡ fault_of (in_order first b expected given) → b ≡ b' → x ≡ fault_of (in_order first b' expected given)
