@@ -9,6 +9,7 @@ ghost use Rattle.shown.specs.Matching.{Comparing, TopsAre, Matches, how_of, List
 
 use bags::{How, left_how, right_how, sign};
 use expand::steps::first_decomposable;
+use formula::Form;
 use held::words::field;
 use tree::{Span, node_at};
 use zones::Zones;
@@ -31,19 +32,17 @@ fn match_tops(mem: &[u16], x: usize, how: How, s: &[u8], at: usize) -> Tops
     if tree::byte_at(s, at) != t {
         return Tops::Told(None);
     }
-    if t < 4 {
-        return Tops::Told(Some(tree::after(s, at, 1)));
-    }
-    if t < 6 {
-        if tree::two_at(s, tree::after(s, at, 1)) != field(mem, x, 1) {
-            return Tops::Told(None);
+    match formula::form_of(t) {
+        Form::Unit => Tops::Told(Some(tree::after(s, at, 1))),
+        Form::Named => {
+            if tree::two_at(s, tree::after(s, at, 1)) != field(mem, x, 1) {
+                return Tops::Told(None);
+            }
+            Tops::Told(Some(tree::after(s, at, 3)))
         }
-        return Tops::Told(Some(tree::after(s, at, 3)));
+        Form::Binary => Tops::Two,
+        Form::Unary | Form::Unknown => Tops::One,
     }
-    if t > 10 {
-        return Tops::One;
-    }
-    Tops::Two
 }
 
 // The held formula x, read so, and the formula at a place, walked in step.
