@@ -114,8 +114,6 @@ pub fn is_shown(mem: &[u16], z: Zones, s: &[u8], at: usize) -> bool
     let node = node_at(s, at);
     let first = first_decomposable(mem, z);
     let items = &z.linear[..z.linear_len];
-    if !zone_shown(mem, items, Some(first), s, node.linear) {
-        return false;
-    }
-    unrestricted_shown(mem, z, s, node.unrestricted)
+    zone_shown(mem, items, Some(first), s, node.linear)
+        && unrestricted_shown(mem, z, s, node.unrestricted)
 }
