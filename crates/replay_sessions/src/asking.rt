@@ -13,18 +13,14 @@ pub const MESSAGE: usize = 65539;
 // Document 01's number of the answer, the counters, and how many bytes of a tree were written.
 #[derive(Clone, Copy)]
 pub struct Said {
-    pub answer: usize,
+    pub answer: u8,
     pub explored: usize,
     pub hits: usize,
     pub reached: usize,
     pub written: usize,
 }
 
-fn wide(b: u8) -> usize {
-    b as usize
-}
-
-fn counted(answer: usize, c: Counters, written: usize) -> Said {
+fn counted(answer: u8, c: Counters, written: usize) -> Said {
     Said {
         answer,
         explored: c.explored,
@@ -38,7 +34,7 @@ fn told(answer: Answer) -> Said {
     match answer {
         Answer::Found(written, c) => counted(0, c, written),
         Answer::Nothing(c) => counted(1, c, 0),
-        Answer::Refused(why, c) => counted(wide(formula::number(why)), c, 0),
+        Answer::Refused(why, c) => counted(u8::from(why), c, 0),
     }
 }
 
@@ -74,29 +70,26 @@ pub fn room() -> [u8; MESSAGE]
     [0; MESSAGE]
 }
 
-// The question is the first n bytes of `message`.
 pub fn ask(
     message: &[u8],
-    n: usize,
     by: Settings,
     mem: &mut [u16],
     work: &mut [u64],
     out: &mut [u8],
 ) -> Said {
-    let n = stored::at_most(n, message);
-    told(prover::prove(&message[..n], by.limit, by.budget, by.cache, mem, work, out))
+    told(prover::prove(message, by.limit, by.budget, by.cache, mem, work, out))
 }
 
 // The same, with a work slice of the longest budget.
-pub fn ask_into(message: &[u8], n: usize, by: Settings, mem: &mut [u16], out: &mut [u8]) -> Said {
+pub fn ask_into(message: &[u8], by: Settings, mem: &mut [u16], out: &mut [u8]) -> Said {
     let mut work = [0u64; BUDGET];
-    ask(message, n, by, mem, &mut work, out)
+    ask(message, by, mem, &mut work, out)
 }
 
 // The same, where no tree is looked at.
-pub fn ask_only(message: &[u8], n: usize, by: Settings, mem: &mut [u16]) -> Said {
+pub fn ask_only(message: &[u8], by: Settings, mem: &mut [u16]) -> Said {
     let mut out = room();
-    ask_into(message, n, by, mem, &mut out)
+    ask_into(message, by, mem, &mut out)
 }
 
 // A memory that holds nothing.
@@ -108,16 +101,8 @@ pub fn fresh() -> [u16; memory::WORDS]
     mem
 }
 
-fn wide_word(w: u16) -> usize {
-    w as usize
-}
-
 fn word(mem: &[u16], at: usize) -> usize {
-    if at < mem.len() {
-        wide_word(mem[at])
-    } else {
-        0
-    }
+    mem.get(at).copied().map_or(0, usize::from)
 }
 
 // How many formulas and how many failures the memory holds (docs/MEMORY.md).

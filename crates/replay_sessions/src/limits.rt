@@ -4,9 +4,8 @@ ghost use Rattle.std.specs.Prelude.{◌≤◌};
 use crate::asking::{
     BUDGET, MESSAGE, Said, Settings, ask, ask_only, fresh, room, to, uncached, usual,
 };
-use crate::message::{atoms, comb, linear, lone_atom, tower, towers};
-use crate::settled::{Expected, alone, is, is_said, next, wanted};
-use question::FIRST;
+use crate::message::Message;
+use crate::settled::{Expected, alone, is, left, next, wanted};
 use stored::Tally;
 
 // Room for the questions put together here.
@@ -21,55 +20,47 @@ pub const PAIR_TREE: usize = 15;
 pub const CHOICE: [u8; 11] = *b"\x01\x00\x08\x01\x00\x03\x09\x03\x00\x00\x00";
 
 // Refused in reading: no counters, nothing held.
-fn refused(answer: usize) -> Expected {
+fn refused(answer: u8) -> Expected {
     wanted(answer, 0, 0, 0, 0, 0)
 }
 
-fn reads(message: &[u8], answer: usize) -> bool {
-    alone(message, message.len(), usual(), MESSAGE, refused(answer))
-}
-
 // So many atoms in the linear zone.
-fn wide(count: usize, e: Expected) -> bool {
+fn wide(count: u16, e: Expected) -> bool {
     let mut buf = [0u8; ROOM];
-    let end = atoms(&mut buf, FIRST, 0, count);
-    let n = linear(&mut buf, end);
-    alone(&buf, n, usual(), MESSAGE, e)
+    let mut m = Message::new(&mut buf);
+    m.atoms(0, count);
+    alone(m.linear(), usual(), MESSAGE, e)
 }
 
 // One formula of so many ! over 1.
 fn high(levels: usize, e: Expected) -> bool {
     let mut buf = [0u8; ROOM];
-    let end = tower(&mut buf, FIRST, levels);
-    let n = linear(&mut buf, end);
-    alone(&buf, n, to(64, true), MESSAGE, e)
+    let mut m = Message::new(&mut buf);
+    m.tower(levels);
+    alone(m.linear(), to(64, true), MESSAGE, e)
 }
 
-// Fewer than three bytes, version, length, kind.
-fn heads(tally: Tally) -> Tally {
-    let mut t = tally;
-    t = t.with(reads(b"", 3));
-    t = t.with(reads(b"\x02\x00", 3));
-    t = t.with(reads(b"\x02\x00\x01", 2));
-    t = t.with(reads(b"\x01\x00\x01", 3));
-    t = t.with(reads(b"\x01\x00\x00", 3));
-    t.with(reads(b"\x01\x00\x05\x03\x00\x00\x00\x00", 2))
-}
-
-// The zones' lengths, bytes left over, formulas.
-fn zones(tally: Tally) -> Tally {
-    let mut t = tally;
-    t = t.with(reads(b"\x01\x00\x03\x01\x00\x00", 3));
-    t = t.with(reads(b"\x01\x00\x06\x01\x00\x01\x0D\x00\x01", 3));
-    t = t.with(reads(b"\x01\x00\x07\x01\x00\x01\x0D\x00\x00\x00", 3));
-    t = t.with(reads(b"\x01\x00\x06\x01\x00\x01\x0D\x00\x00", 4));
-    t.with(reads(b"\x01\x00\x06\x02\x00\x00\x00\x01\x04", 3))
-}
+// Fewer than three bytes, version, length, kind; the zones' lengths, bytes left over, formulas.
+const READS: [(&[u8], u8); 11] = [
+    (b"", 3),
+    (b"\x02\x00", 3),
+    (b"\x02\x00\x01", 2),
+    (b"\x01\x00\x01", 3),
+    (b"\x01\x00\x00", 3),
+    (b"\x01\x00\x05\x03\x00\x00\x00\x00", 2),
+    (b"\x01\x00\x03\x01\x00\x00", 3),
+    (b"\x01\x00\x06\x01\x00\x01\x0D\x00\x01", 3),
+    (b"\x01\x00\x07\x01\x00\x01\x0D\x00\x00\x00", 3),
+    (b"\x01\x00\x06\x01\x00\x01\x0D\x00\x00", 4),
+    (b"\x01\x00\x06\x02\x00\x00\x00\x01\x04", 3),
+];
 
 // What reading refuses, in its order; then widths and heights.
 pub fn reading() -> Tally {
-    let mut t = heads(Tally::new());
-    t = zones(t);
+    let mut t = Tally::new();
+    for (message, answer) in READS {
+        t = t.with(alone(message, usual(), MESSAGE, refused(answer)));
+    }
     t = t.with(wide(31, wanted(1, 1, 0, 0, 31, 1)));
     t = t.with(wide(32, refused(6)));
     t = t.with(high(63, wanted(0, 64, 0, 63, 64, 0)));
@@ -85,7 +76,7 @@ fn pair_by(by: Settings, words: usize, mem: &mut [u16]) -> Said
 {
     let mut work = [0u64; WORK];
     let mut out = room();
-    ask(&PAIR, 14, by, mem, &mut work[..words], &mut out)
+    ask(&PAIR, by, mem, &mut work[..words], &mut out)
 }
 
 // The same, on a memory that holds nothing.
@@ -110,59 +101,54 @@ fn found() -> Expected {
 // Depth limits, budgets, and work slices of just the budget and one word fewer.
 pub fn settings() -> Tally {
     let mut t = Tally::new();
-    t = t.with(set(64, BUDGET, BUDGET, found()));
-    t = t.with(set(65, BUDGET, BUDGET, refused(11)));
-    t = t.with(set(0, BUDGET, BUDGET, found()));
-    t = t.with(set(32, 16385, 16385, refused(11)));
-    t = t.with(set(32, 0, BUDGET, refused(11)));
-    t = t.with(set(32, BUDGET, 16385, found()));
-    t = t.with(set(32, BUDGET, 16383, refused(11)));
-    t = t.with(set(32, 16383, 16383, found()));
-    t = t.with(set(32, 1, 1, found()));
-    t.with(set(32, 1, 0, refused(11)))
+    for (limit, budget, words, e) in [
+        (64, BUDGET, BUDGET, found()),
+        (65, BUDGET, BUDGET, refused(11)),
+        (0, BUDGET, BUDGET, found()),
+        (32, 16385, 16385, refused(11)),
+        (32, 0, BUDGET, refused(11)),
+        (32, BUDGET, 16385, found()),
+        (32, BUDGET, 16383, refused(11)),
+        (32, 16383, 16383, found()),
+        (32, 1, 1, found()),
+        (32, 1, 0, refused(11)),
+    ] {
+        t = t.with(set(limit, budget, words, e));
+    }
+    t
 }
 
 // One word more than a memory has.
 const TOO_LONG: usize = memory::WORDS + 1;
 
 // The pair, on so many words that hold nothing.
-fn long(words: usize, answer: usize) -> bool {
+fn long(words: usize, answer: u8) -> bool {
     let mut mem = [0u16; TOO_LONG];
     if mem.len() < words {
         return false;
     }
-    let said = ask_only(&PAIR, 14, usual(), &mut mem[..words]);
+    let said = ask_only(&PAIR, usual(), &mut mem[..words]);
     said.answer == answer
 }
 
 fn changed(mem: &mut [u16], at: usize, word: u16) {
-    if at < mem.len() {
-        mem[at] = word;
+    if let Some(place) = mem.get_mut(at) {
+        *place = word;
     }
 }
 
 // A question asked after the pair in a memory where one word was changed. It is refused with the counters at 0.
-fn spoilt(at: usize, word: u16, message: &[u8], limit: usize, answer: usize) -> bool {
+fn spoilt(at: usize, word: u16, message: &[u8], limit: usize, answer: u8) -> bool {
     let mut mem = fresh();
-    ask_only(&PAIR, 14, usual(), &mut mem);
+    ask_only(&PAIR, usual(), &mut mem);
     changed(&mut mem, at, word);
-    let said = ask_only(message, message.len(), to(limit, true), &mut mem);
-    is_said(said, refused(answer))
-}
-
-// The pair asked again is refused for the memory.
-fn is_spoilt(at: usize, word: u16) -> bool {
-    spoilt(at, word, &PAIR, 32, 12)
-}
-
-// What is refused where no byte is asked.
-fn comes_first(at: usize, word: u16, limit: usize, answer: usize) -> bool {
-    spoilt(at, word, b"", limit, answer)
+    let said = ask_only(message, to(limit, true), &mut mem);
+    left(said, 0, 0) == refused(answer)
 }
 
 // The pair, in a memory that was lent before.
 fn asks_pair(mem: &mut [u16], e: Expected) -> bool {
-    next(&PAIR, 14, usual(), MESSAGE, mem, e)
+    next(&PAIR, usual(), MESSAGE, mem, e)
 }
 
 // A spoilt memory is well-formed again after `reset`.
@@ -174,22 +160,21 @@ fn mended() -> bool {
 }
 
 // A count, a tag, a name, a height, a size, an order word, a word past what is held, and the same of the failures.
-fn words(tally: Tally) -> Tally {
-    let mut t = tally;
-    t = t.with(is_spoilt(0, 2049));
-    t = t.with(is_spoilt(0, 3));
-    t = t.with(is_spoilt(1, 13));
-    t = t.with(is_spoilt(1, 5));
-    t = t.with(is_spoilt(3, 1));
-    t = t.with(is_spoilt(4, 2));
-    t = t.with(is_spoilt(5, 1));
-    t = t.with(is_spoilt(11, 1));
-    t = t.with(is_spoilt(held::ORDER, 1));
-    t = t.with(is_spoilt(held::ORDER + 2, 1));
-    t = t.with(is_spoilt(memory::FORMULAS, 1001));
-    t = t.with(is_spoilt(memory::FORMULAS + 1, 1));
-    t.with(is_spoilt(memory::WORDS - 1, 1))
-}
+const WRONG: [(usize, u16); 13] = [
+    (0, 2049),
+    (0, 3),
+    (1, 13),
+    (1, 5),
+    (3, 1),
+    (4, 2),
+    (5, 1),
+    (11, 1),
+    (held::ORDER, 1),
+    (held::ORDER + 2, 1),
+    (memory::FORMULAS, 1001),
+    (memory::FORMULAS + 1, 1),
+    (memory::WORDS - 1, 1),
+];
 
 // The wrong length; a wrong word; 11 before 12 before reading.
 pub fn memories() -> Tally {
@@ -198,32 +183,33 @@ pub fn memories() -> Tally {
     t = t.with(long(memory::WORDS - 1, 12));
     t = t.with(long(TOO_LONG, 12));
     t = t.with(long(0, 12));
-    t = words(t);
-    t = t.with(comes_first(0, 2049, 32, 12));
-    t = t.with(comes_first(0, 2049, 65, 11));
-    t = t.with(comes_first(0, 2, 32, 3));
+    for (at, word) in WRONG {
+        t = t.with(spoilt(at, word, &PAIR, 32, 12));
+    }
+    t = t.with(spoilt(0, 2049, b"", 32, 12));
+    t = t.with(spoilt(0, 2049, b"", 65, 11));
+    t = t.with(spoilt(0, 2, b"", 32, 3));
     t.with(mended())
 }
 
-// A question of one atom enters it. With the cache off it leaves no failure.
-fn enter_atom(name: usize, mem: &mut [u16]) {
-    let mut buf = [0u8; ROOM];
-    let n = lone_atom(&mut buf, name);
-    ask_only(&buf, n, uncached(), mem);
+// The question of one atom.
+fn lone_atom(buf: &mut [u8], name: u16) -> &[u8] {
+    let mut m = Message::new(buf);
+    m.atom(name);
+    m.linear()
 }
 
-// The atoms from one name up to another are entered into a memory.
-pub fn fill(from: usize, to: usize, mem: &mut [u16]) {
+// The atoms from one name up to another are entered into a memory, each by its question. With the cache off it leaves no failure.
+pub fn fill(from: u16, to: u16, mem: &mut [u16]) {
     for name in from..to {
-        enter_atom(name, mem);
+        let mut buf = [0u8; ROOM];
+        ask_only(lone_atom(&mut buf, name), uncached(), mem);
     }
 }
 
-// The question of one atom.
-fn asks_atom(name: usize, mem: &mut [u16], e: Expected) -> bool {
+fn asks_atom(name: u16, mem: &mut [u16], e: Expected) -> bool {
     let mut buf = [0u8; ROOM];
-    let n = lone_atom(&mut buf, name);
-    next(&buf, n, usual(), MESSAGE, mem, e)
+    next(lone_atom(&mut buf, name), usual(), MESSAGE, mem, e)
 }
 
 // 2,048 formulas are held, and the question that needs one more enters none.
@@ -239,10 +225,10 @@ pub fn formulas() -> Tally {
 }
 
 // So many failures are recorded, one of each atom.
-fn fail(count: usize, mem: &mut [u16]) -> Tally {
+fn fail(count: u16, mem: &mut [u16]) -> Tally {
     let mut tally = Tally::new();
     for name in 0..count {
-        let held = name + 1;
+        let held = usize::from(name) + 1;
         tally = tally.with(asks_atom(name, mem, wanted(1, 1, 0, 0, held, held)));
     }
     tally
@@ -250,7 +236,7 @@ fn fail(count: usize, mem: &mut [u16]) -> Tally {
 
 // 0⊕1, in a memory that was lent before.
 fn asks_choice(by: Settings, mem: &mut [u16], e: Expected) -> bool {
-    next(&CHOICE, 11, by, MESSAGE, mem, e)
+    next(&CHOICE, by, MESSAGE, mem, e)
 }
 
 // 1,000 failures are held, and the next that is new is refused in the middle of the search. One that is held is still a hit, and with the cache off nothing is recorded.
@@ -265,16 +251,18 @@ pub fn failures() -> Tally {
 // ⊤&(⊤&(.. ⊤)) with 32 & beside formulas of 64 bytes 15 times and one more: the tree's body has 65 nodes.
 fn body(last: usize, e: Expected) -> bool {
     let mut buf = [0u8; ROOM];
-    let beside = comb(&mut buf, FIRST, 32);
-    let most = towers(&mut buf, beside, 63, 15);
-    let end = tower(&mut buf, most, last);
-    let n = linear(&mut buf, end);
-    alone(&buf, n, usual(), MESSAGE, e)
+    let mut m = Message::new(&mut buf);
+    m.comb(32);
+    for _ in 0..15 {
+        m.tower(63);
+    }
+    m.tower(last);
+    alone(m.linear(), usual(), MESSAGE, e)
 }
 
 // The pair, with so much room for its tree.
 fn into(room: usize, e: Expected) -> bool {
-    alone(&PAIR, 14, usual(), room, e)
+    alone(&PAIR, usual(), room, e)
 }
 
 // The buffer just long enough, one byte short, and empty; a body of 65,471 bytes and one of 65,536.

@@ -1,103 +1,110 @@
-// Questions put together byte by byte: each call stores at a place and answers the place after it. What has no room is left out.
+// Questions put together byte by byte, in a lent buffer. What has no room is left out.
 use question::FIRST;
+use std::io::Read;
 
-const ATOM: usize = 4;
+const ATOM: u8 = 4;
 
-const WITH: usize = 8;
+const WITH: u8 = 8;
 
-const TOP: usize = 2;
+const TOP: u8 = 2;
 
-const OF_COURSE: usize = 11;
+const OF_COURSE: u8 = 11;
 
-const ONE: usize = 0;
+const ONE: u8 = 0;
 
-fn low(n: usize) -> u8 {
-    (n % 256) as u8
+// A question of kind 1, whose formulas stand from FIRST up to `at`.
+#[derive(Drop)]
+pub struct Message<'a> {
+    pub buf: &'a mut [u8],
+    pub at: usize,
 }
 
-pub fn byte(buf: &mut [u8], at: usize, b: usize) -> usize {
-    if at < buf.len() {
-        buf[at] = low(b);
-        return at + 1;
+fn put(buf: &mut [u8], at: usize, bytes: &[u8]) {
+    let Some(rest) = buf.get_mut(at..) else {
+        return;
+    };
+    for (place, b) in rest.iter_mut().zip(bytes) {
+        *place = *b;
     }
-    at
 }
 
-pub fn number(buf: &mut [u8], at: usize, n: usize) -> usize {
-    let next = byte(buf, at, n / 256);
-    byte(buf, next, n)
+// A length, at its place.
+fn put_length(buf: &mut [u8], at: usize, length: usize) {
+    put(buf, at, &((length % 65536) as u16).to_be_bytes());
 }
 
-// The atom of a name.
-pub fn atom(buf: &mut [u8], at: usize, name: usize) -> usize {
-    let next = byte(buf, at, ATOM);
-    number(buf, next, name)
-}
-
-// The atoms from one name up to another.
-pub fn atoms(buf: &mut [u8], at: usize, from: usize, to: usize) -> usize {
-    let mut next = at;
-    for name in from..to {
-        next = atom(buf, next, name);
+impl<'a> Message<'a> {
+    pub fn new(buf: &'a mut [u8]) -> Message<'a> {
+        Message { buf, at: FIRST }
     }
-    next
-}
 
-// 1 under so many !. Its height and its size are one more.
-pub fn tower(buf: &mut [u8], at: usize, levels: usize) -> usize {
-    let mut next = at;
-    for _ in 0..levels {
-        next = byte(buf, next, OF_COURSE);
+    pub fn byte(&mut self, b: u8) {
+        if let Some(place) = self.buf.get_mut(self.at) {
+            *place = b;
+            self.at += 1;
+        }
     }
-    byte(buf, next, ONE)
-}
 
-// So many towers.
-pub fn towers(buf: &mut [u8], at: usize, levels: usize, count: usize) -> usize {
-    let mut next = at;
-    for _ in 0..count {
-        next = tower(buf, next, levels);
+    pub fn number(&mut self, n: u16) {
+        for b in n.to_be_bytes() {
+            self.byte(b);
+        }
     }
-    next
-}
 
-// ⊤&(⊤&(.. ⊤)), of so many &.
-pub fn comb(buf: &mut [u8], at: usize, levels: usize) -> usize {
-    let mut next = at;
-    for _ in 0..levels {
-        next = byte(buf, next, WITH);
-        next = byte(buf, next, TOP);
+    // The next so many bytes of a list.
+    pub fn read(&mut self, input: &mut impl Read, n: usize) {
+        if let Some(rest) = self.buf.get_mut(self.at..) {
+            let read = stored::bytes(input, rest, n).len();
+            self.at = self.at.saturating_add(read);
+        }
     }
-    byte(buf, next, TOP)
-}
 
-fn less(a: usize, b: usize) -> usize {
-    if a < b { 0 } else { a - b }
-}
+    // The atom of a name.
+    pub fn atom(&mut self, name: u16) {
+        self.byte(ATOM);
+        self.number(name);
+    }
 
-// The length of a zone, whose formulas stand behind it up to `end`.
-fn zone(buf: &mut [u8], at: usize, end: usize) {
-    number(buf, at, less(less(end, at), 2));
-}
+    // The atoms from one name up to another.
+    pub fn atoms(&mut self, from: u16, to: u16) {
+        for name in from..to {
+            self.atom(name);
+        }
+    }
 
-// The question of kind 1 whose linear formulas stand from FIRST to `middle` and whose unrestricted ones from two bytes further to `end`; answers its length.
-pub fn closed(buf: &mut [u8], middle: usize, end: usize) -> usize {
-    byte(buf, 0, 1);
-    number(buf, 1, less(end, 3));
-    byte(buf, 3, 1);
-    zone(buf, FIRST - 2, middle);
-    zone(buf, middle, end);
-    end
-}
+    // 1 under so many !. Its height and its size are one more.
+    pub fn tower(&mut self, levels: usize) {
+        for _ in 0..levels {
+            self.byte(OF_COURSE);
+        }
+        self.byte(ONE);
+    }
 
-// The same with no unrestricted formula.
-pub fn linear(buf: &mut [u8], end: usize) -> usize {
-    let last = number(buf, end, 0);
-    closed(buf, end, last)
-}
+    // ⊤&(⊤&(.. ⊤)), of so many &.
+    pub fn comb(&mut self, levels: usize) {
+        for _ in 0..levels {
+            self.byte(WITH);
+            self.byte(TOP);
+        }
+        self.byte(TOP);
+    }
 
-// The question of one atom.
-pub fn lone_atom(buf: &mut [u8], name: usize) -> usize {
-    let end = atom(buf, FIRST, name);
-    linear(buf, end)
+    // The question whose unrestricted formulas stand from two bytes behind `middle` on.
+    pub fn closed(self, middle: usize) -> &'a [u8] {
+        let end = self.at;
+        let buf = self.buf;
+        put(buf, 0, &[1]);
+        put_length(buf, 1, end.saturating_sub(3));
+        put(buf, 3, &[1]);
+        put_length(buf, FIRST - 2, middle.saturating_sub(FIRST));
+        put_length(buf, middle, end.saturating_sub(middle).saturating_sub(2));
+        buf.get(..end).unwrap_or(&[])
+    }
+
+    // The question with no unrestricted formula.
+    pub fn linear(mut self) -> &'a [u8] {
+        let middle = self.at;
+        self.number(0);
+        self.closed(middle)
+    }
 }

@@ -1,55 +1,48 @@
 // Refusals in the middle of a search: each keeps the counters, the formulas and the failures reached by then.
 use crate::asking::{MESSAGE, Settings, fresh, to, usual};
 use crate::limits::{CHOICE, ROOM, fill};
-use crate::message::{atom, atoms, byte, linear};
+use crate::message::Message;
 use crate::settled::{Expected, alone, next, wanted};
-use question::FIRST;
 use stored::Tally;
 
-const ZERO: usize = 3;
+const ZERO: u8 = 3;
 
-const PAR: usize = 7;
+const PAR: u8 = 7;
 
-const PLUS: usize = 9;
+const PLUS: u8 = 9;
 
-const LOLLI: usize = 10;
+const LOLLI: u8 = 10;
 
-// 0⊕ before the next formula, or nothing.
-fn choice(buf: &mut [u8], is_choice: bool) -> usize {
+// A sign between two atoms; behind 0⊕ where it is a choice.
+fn joined(m: &mut Message, is_choice: bool, sign: u8, left: u16, right: u16) {
     if is_choice {
-        let left = byte(buf, FIRST, PLUS);
-        return byte(buf, left, ZERO);
+        m.byte(PLUS);
+        m.byte(ZERO);
     }
-    FIRST
-}
-
-// A sign between two atoms, where `choice` ends.
-fn joined(buf: &mut [u8], is_choice: bool, sign: usize, left: usize, right: usize) -> usize {
-    let start = choice(buf, is_choice);
-    let first = byte(buf, start, sign);
-    let second = atom(buf, first, left);
-    atom(buf, second, right)
+    m.byte(sign);
+    m.atom(left);
+    m.atom(right);
 }
 
 // a1⅋a2 beside 30 atoms: its premise would have 32 formulas. Behind 0⊕, one failure comes before.
 fn wide(is_choice: bool, limit: usize, e: Expected) -> bool {
     let mut buf = [0u8; ROOM];
-    let beside = joined(&mut buf, is_choice, PAR, 1, 2);
-    let end = atoms(&mut buf, beside, 0, 30);
-    let n = linear(&mut buf, end);
-    alone(&buf, n, to(limit, true), MESSAGE, e)
+    let mut m = Message::new(&mut buf);
+    joined(&mut m, is_choice, PAR, 1, 2);
+    m.atoms(0, 30);
+    alone(m.linear(), to(limit, true), MESSAGE, e)
 }
 
 // a1⊸a1, in a memory that was lent before.
 fn implies(is_choice: bool, mem: &mut [u16], e: Expected) -> bool {
     let mut buf = [0u8; ROOM];
-    let end = joined(&mut buf, is_choice, LOLLI, 1, 1);
-    let n = linear(&mut buf, end);
-    next(&buf, n, usual(), MESSAGE, mem, e)
+    let mut m = Message::new(&mut buf);
+    joined(&mut m, is_choice, LOLLI, 1, 1);
+    next(m.linear(), usual(), MESSAGE, mem, e)
 }
 
 // The memory holds the atoms from a1000 up to a name, and has room for the question and one formula more: a1⊥ and a1⊥⅋a1 are two.
-fn spelt(is_choice: bool, before: usize, e: Expected) -> bool {
+fn spelt(is_choice: bool, before: u16, e: Expected) -> bool {
     let mut mem = fresh();
     fill(1000, before, &mut mem);
     implies(is_choice, &mut mem, e)
@@ -62,7 +55,7 @@ fn choose(budget: usize, room: usize, e: Expected) -> bool {
         budget,
         cache: true,
     };
-    alone(&CHOICE, 11, by, room, e)
+    alone(&CHOICE, by, room, e)
 }
 
 // 6, 7, 8 and 10, each after none and after one failure; the depth limit does not come before 6.

@@ -1,11 +1,11 @@
 // The list of sessions: what the Rust said of each question, and the failures that were new after it.
 use crate::asking::{Said, ask_into, ask_only, failures_held, formulas_held, fresh, room, to};
-use question::FIRST;
+use crate::message::Message;
 use std::io;
 use std::io::Read;
 use stored::{MOST_RECORDS, Tally};
 
-const WHY_NOT: usize = 12;
+const WHY_NOT: u8 = 12;
 
 // What came of the list: its questions, by the Rust's answer, and the failures that were new after them.
 #[derive(Clone, Copy)]
@@ -17,80 +17,49 @@ pub struct Compared {
 
 // The counters are those that the list has next.
 fn is_counted(input: &mut impl Read, said: Said) -> bool {
-    let explored = stored::long_number(input);
-    let hits = stored::long_number(input);
-    let reached = stored::byte(input);
+    let explored = stored::long_number(input) as usize;
+    let hits = stored::long_number(input) as usize;
+    let reached = usize::from(stored::byte(input));
     said.explored == explored && said.hits == hits && said.reached == reached
 }
 
 // The tree in `out` is the one that the list has next. One of no bytes is none.
 fn is_written(input: &mut impl Read, said: Said, out: &[u8]) -> bool {
-    let length = stored::long_number(input);
-    let mut tree = room();
-    let n = stored::bytes(input, &mut tree, length);
-    said.written == length && stored::starts(out, length, &tree[..n])
+    let length = stored::long_number(input) as usize;
+    let mut buf = room();
+    let tree = stored::bytes(input, &mut buf, length);
+    said.written == length && stored::starts(out, length, tree)
 }
 
-// Where the next item of a failure goes, and where the marked ones begin: 0 where none came.
-#[derive(Clone, Copy)]
-pub struct Place {
-    pub at: usize,
-    pub marked: usize,
-}
-
-// The next bytes of the list, to their place.
-fn copied(input: &mut impl Read, buf: &mut [u8], at: usize, n: usize) -> usize {
-    if buf.len() < at {
-        return at;
-    }
-    at + stored::bytes(input, &mut buf[at..], n)
-}
-
-// Where an item begins: ?A goes to the unrestricted zone as A, behind the zone's length. The items are sorted by their bytes, so these come last.
-fn start(buf: &mut [u8], p: Place, tag: usize) -> Place {
-    if tag != WHY_NOT {
-        return Place {
-            at: crate::message::byte(buf, p.at, tag),
-            marked: p.marked,
-        };
-    }
-    if p.marked != 0 {
-        return p;
-    }
-    Place {
-        at: crate::message::number(buf, p.at, 0),
-        marked: p.at,
-    }
-}
-
-// The next item of the list.
-fn item(input: &mut impl Read, buf: &mut [u8], p: Place) -> Place {
-    let n = stored::number(input);
+// The next item of a failure: ?A goes to the unrestricted zone as A, behind the zone's length, whose place is marked. The items are sorted by their bytes, so these come last.
+fn item(input: &mut impl Read, m: &mut Message, marked: Option<usize>) -> Option<usize> {
+    let n = usize::from(stored::number(input));
     let tag = stored::byte(input);
     if n == 0 {
-        return p;
+        return marked;
     }
-    let from = start(buf, p, tag);
-    Place {
-        at: copied(input, buf, from.at, n - 1),
-        marked: from.marked,
+    let mut marked = marked;
+    if tag != WHY_NOT {
+        m.byte(tag);
+    } else if marked.is_none() {
+        marked = Some(m.at);
+        m.number(0);
     }
+    m.read(input, n - 1);
+    marked
 }
 
 // The failure that the list has next, as a question.
-fn failure(input: &mut impl Read, buf: &mut [u8]) -> usize {
-    let mut p = Place {
-        at: FIRST,
-        marked: 0,
-    };
-    let count = stored::byte(input);
-    for _ in 0..count {
-        p = item(input, buf, p);
+fn failure<'a>(input: &mut impl Read, buf: &'a mut [u8]) -> &'a [u8] {
+    let mut m = Message::new(buf);
+    let mut marked = None;
+    for _ in 0..stored::byte(input) {
+        marked = item(input, &mut m, marked);
     }
-    if p.marked == 0 {
-        return crate::message::linear(buf, p.at);
+    match marked {
+        None => m.linear(),
+        Some(middle) => m.closed(middle),
     }
-    crate::message::closed(buf, p.marked, p.at)
 }
 
 fn is_hit(said: Said) -> bool {
@@ -100,15 +69,15 @@ fn is_hit(said: Said) -> bool {
 // The failure that the list has next is held: it is a hit where it is asked, and its formulas are held.
 fn is_held(input: &mut impl Read, mem: &mut [u16]) -> bool {
     let mut buf = room();
-    let n = failure(input, &mut buf);
+    let question = failure(input, &mut buf);
     let before = formulas_held(mem);
-    let said = ask_only(&buf, n, to(0, true), mem);
+    let said = ask_only(question, to(0, true), mem);
     let after = formulas_held(mem);
     is_hit(said) && after == before
 }
 
 // So many failures that the list has next.
-fn failures(input: &mut impl Read, tally: Tally, count: usize, mem: &mut [u16]) -> Tally {
+fn failures(input: &mut impl Read, tally: Tally, count: u16, mem: &mut [u16]) -> Tally {
     let mut t = tally;
     for _ in 0..count {
         t = t.with(is_held(input, mem));
@@ -118,35 +87,33 @@ fn failures(input: &mut impl Read, tally: Tally, count: usize, mem: &mut [u16]) 
 
 // The question that the list has next.
 fn asked(input: &mut impl Read, cache: bool, mem: &mut [u16], out: &mut [u8]) -> Said {
-    let limit = stored::byte(input);
+    let limit = usize::from(stored::byte(input));
     let mut buf = room();
-    let length = stored::number(input);
-    let n = stored::bytes(input, &mut buf, length);
-    ask_into(&buf, n, to(limit, cache), mem, out)
+    let question = stored::item(input, &mut buf);
+    ask_into(question, to(limit, cache), mem, out)
 }
 
 // What was said is the Rust's answer, and the counters and the tree are those that the list has next.
-fn is_told(input: &mut impl Read, said: Said, answer: usize, out: &[u8]) -> bool {
+fn is_told(input: &mut impl Read, said: Said, answer: u8, out: &[u8]) -> bool {
     let counted = is_counted(input, said);
     let written = is_written(input, said, out);
     said.answer == answer && counted && written
 }
 
 // One question more, and the failures so far.
-fn with(r: Compared, answer: usize, agrees: bool, failures: Tally) -> Compared {
-    let found = r.found;
-    let not_found = r.not_found;
+fn with(r: Compared, answer: u8, agrees: bool, failures: Tally) -> Compared {
     if answer == 0 {
-        return Compared {
-            found: found.with(agrees),
-            not_found,
+        Compared {
+            found: r.found.with(agrees),
             failures,
-        };
-    }
-    Compared {
-        found,
-        not_found: not_found.with(agrees),
-        failures,
+            ..r
+        }
+    } else {
+        Compared {
+            not_found: r.not_found.with(agrees),
+            failures,
+            ..r
+        }
     }
 }
 
@@ -156,7 +123,7 @@ fn question(input: &mut impl Read, r: Compared, cache: bool, mem: &mut [u16]) ->
     let said = asked(input, cache, mem, &mut out);
     let answer = stored::byte(input);
     let told = is_told(input, said, answer, &out);
-    let held = stored::number(input) == failures_held(mem);
+    let held = usize::from(stored::number(input)) == failures_held(mem);
     let before = r.failures;
     let count = stored::number(input);
     let after = failures(input, before, count, mem);
@@ -164,7 +131,7 @@ fn question(input: &mut impl Read, r: Compared, cache: bool, mem: &mut [u16]) ->
 }
 
 // A session's questions, in one memory.
-fn session(input: &mut impl Read, replay: Compared, cache: bool, questions: usize) -> Compared {
+fn session(input: &mut impl Read, replay: Compared, cache: bool, questions: u8) -> Compared {
     let mut mem = fresh();
     let mut r = replay;
     for _ in 0..questions {
@@ -175,12 +142,9 @@ fn session(input: &mut impl Read, replay: Compared, cache: bool, questions: usiz
 
 fn print(rt: &impl Print, sessions: usize, r: Compared) -> io::Result<()> {
     println!(rt; "{sessions} sessions")?;
-    let found = r.found;
-    found.print(rt, b" trees found")?;
-    let not_found = r.not_found;
-    not_found.print(rt, b" questions with no tree")?;
-    let failures = r.failures;
-    failures.print(rt, b" failures")
+    r.found.print(rt, "trees found")?;
+    r.not_found.print(rt, "questions with no tree")?;
+    r.failures.print(rt, "failures")
 }
 
 // Every session of the list; one has a question at least, and past the end of the list it has none.

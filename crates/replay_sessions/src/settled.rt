@@ -4,9 +4,9 @@ ghost use Rattle.std.specs.Prelude.{◌≡◌, length};
 use crate::asking::{MESSAGE, Said, Settings, ask_into, failures_held, formulas_held, fresh};
 
 // Document 01's number and the counters; how many formulas and failures are held afterwards.
-#[derive(Clone, Copy)]
+#[derive(Clone, Copy, Debug, PartialEq, Eq)]
 pub struct Expected {
-    pub answer: usize,
+    pub answer: u8,
     pub explored: usize,
     pub hits: usize,
     pub reached: usize,
@@ -15,7 +15,7 @@ pub struct Expected {
 }
 
 pub fn wanted(
-    answer: usize,
+    answer: u8,
     explored: usize,
     hits: usize,
     reached: usize,
@@ -32,13 +32,20 @@ pub fn wanted(
     }
 }
 
-pub fn is_said(said: Said, e: Expected) -> bool {
-    let counted = said.explored == e.explored && said.hits == e.hits && said.reached == e.reached;
-    said.answer == e.answer && counted
+// What was said, with so many formulas and failures held.
+pub fn left(said: Said, formulas: usize, failures: usize) -> Expected {
+    wanted(
+        said.answer,
+        said.explored,
+        said.hits,
+        said.reached,
+        formulas,
+        failures,
+    )
 }
 
 pub fn is(said: Said, mem: &[u16], e: Expected) -> bool {
-    is_said(said, e) && formulas_held(mem) == e.formulas && failures_held(mem) == e.failures
+    left(said, formulas_held(mem), failures_held(mem)) == e
 }
 
 // What the output buffer is filled with before a call.
@@ -50,41 +57,20 @@ fn blank() -> [u8; MESSAGE]
     [BLANK; MESSAGE]
 }
 
-// The call, with so much room for the tree.
-fn roomed(
-    message: &[u8],
-    n: usize,
-    by: Settings,
-    room: usize,
-    mem: &mut [u16],
-    out: &mut [u8],
-) -> Said {
-    let k = stored::at_most(room, out);
-    ask_into(message, n, by, mem, &mut out[..k])
-}
-
 // The output buffer changes on 0 only.
-fn is_kept(answer: usize, out: &[u8]) -> bool {
+fn is_kept(answer: u8, out: &[u8]) -> bool {
     answer == 0 || out == blank().as_slice()
 }
 
-// A call on a memory that was lent before.
-pub fn next(
-    message: &[u8],
-    n: usize,
-    by: Settings,
-    room: usize,
-    mem: &mut [u16],
-    e: Expected,
-) -> bool {
+// A call on a memory that was lent before, with so much room for the tree.
+pub fn next(message: &[u8], by: Settings, room: usize, mem: &mut [u16], e: Expected) -> bool {
     let mut out = blank();
-    let said = roomed(message, n, by, room, mem, &mut out);
-    let kept = is_kept(said.answer, &out);
-    is(said, mem, e) && kept
+    let said = ask_into(message, by, mem, &mut out[..room.min(MESSAGE)]);
+    is_kept(said.answer, &out) && is(said, mem, e)
 }
 
 // The same on a memory that holds nothing.
-pub fn alone(message: &[u8], n: usize, by: Settings, room: usize, e: Expected) -> bool {
+pub fn alone(message: &[u8], by: Settings, room: usize, e: Expected) -> bool {
     let mut mem = fresh();
-    next(message, n, by, room, &mut mem, e)
+    next(message, by, room, &mut mem, e)
 }
