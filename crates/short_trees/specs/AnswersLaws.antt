@@ -1,6 +1,6 @@
 -- Laws of what both calls answer to a result, over their form: a refusal and a mismatch leave the output as it is; a result is written where there is
 -- room, version and length before its body. Assumes nothing.
-use Rattle.std.specs.Prelude.{◌≡◌, refl, Bool, ℕ, ◌+◌, ◌≤◌, ◌<◌, leb, length, set}
+use Rattle.std.specs.Prelude.{Ok, Err, ◌≡◌, refl, Bool, ℕ, ◌+◌, ◌≤◌, ◌<◌, leb, length, set}
 use Rattle.std.proofs.Common.{sym, ◌∙◌, arith, leb-true, le-leb, length-set}
 use Rattle.std.proofs.Math.Path.{ap}
 use Rattle.std.proofs.Math.Bool.{true, false, and-eq-true_iff}
@@ -18,25 +18,25 @@ use Rattle.expand.specs.Writing.{Wrote}
 use Rattle.short.specs.Making.{Result, made, mismatch, refused}
 use Rattle.short_trees.specs.Promise.{Form, writable, answered, output_after}
 use Rattle.short_trees.specs.Steps.{DoneAs}
-use Rattle.short_trees.specs.declared.Answer.{Answer}
-use Rattle.short_trees.specs.declared.Answer.TheVariants.{Written, Mismatch, Refused}
+use Rattle.short_trees.specs.Promise.{Answer}
+use Rattle.short_trees.specs.declared.Failure.TheVariants.{Mismatch, Refused}
 
 module _ {A B : Type 0} (form : Form A B) {x : Result B × List Formula} (out : List ℕ) {fs : List Formula} (held : fs ≡ x.1) where
-  pub done_refused : (k : answer.Refusal) → x.0 ≡ refused k → DoneAs form x out (Refused (coded k)) fs out
+  pub done_refused : (k : answer.Refusal) → x.0 ≡ refused k → DoneAs form x out (Err (Refused (coded k))) fs out
   unfolding answered output_after
   done_refused k e = record { answer_is = rw e refl; output_is = rw e refl; held_is = held }
 
-  pub done_mismatch : x.0 ≡ mismatch → DoneAs form x out Mismatch fs out
+  pub done_mismatch : x.0 ≡ mismatch → DoneAs form x out (Err Mismatch) fs out
   unfolding answered output_after
   done_mismatch e = record { answer_is = rw e refl; output_is = rw e refl; held_is = held }
 
   module _ {b : B} (e : x.0 ≡ made b) where
     answered_as : {w : Bool} → writable form b out ≡ w
-        → answered form x.0 out ≡ elim w as (λ _. Answer) [ true ↦ Written (length (form.write b)) | false ↦ Refused OutputShort ]
+        → answered form x.0 out ≡ elim w as (λ _. Answer) [ true ↦ Ok (length (form.write b)) | false ↦ Err (Refused OutputShort) ]
     unfolding answered
     answered_as {w} h =
         ap (λ (y : Result B). answered form y out) e
-        ∙ ap (λ (w : Bool). elim w as (λ _. Answer) [ true ↦ Written (length (form.write b)) | false ↦ Refused OutputShort ]) h
+        ∙ ap (λ (w : Bool). elim w as (λ _. Answer) [ true ↦ Ok (length (form.write b)) | false ↦ Err (Refused OutputShort) ]) h
 
     output_as : {w : Bool} → writable form b out ≡ w
         → output_after form x.0 out ≡ elim w as (λ _. List ℕ) [ true ↦ form.write b ++ drop (length (form.write b)) out | false ↦ out ]
@@ -46,10 +46,10 @@ module _ {A B : Type 0} (form : Form A B) {x : Result B × List Formula} (out : 
         ∙ ap (λ (w : Bool). elim w as (λ _. List ℕ) [ true ↦ form.write b ++ drop (length (form.write b)) out | false ↦ out ]) h
 
     -- its body is too long, or there is no room
-    pub done_short : (length (form.body b) ≤ 65535 → length (form.write b) ≤ length out → ⊥) → DoneAs form x out (Refused OutputShort) fs out
+    pub done_short : (length (form.body b) ≤ 65535 → length (form.write b) ≤ length out → ⊥) → DoneAs form x out (Err (Refused OutputShort)) fs out
     done_short h = go (writable form b out) refl
       where
-        go : (w : Bool) → writable form b out ≡ w → DoneAs form x out (Refused OutputShort) fs out
+        go : (w : Bool) → writable form b out ≡ w → DoneAs form x out (Err (Refused OutputShort)) fs out
         go true e =
             let both = (and-eq-true_iff (leb (length (form.body b)) 65535) (leb (length (form.write b)) (length out))).0 e in
             absurd (h (leb-true _ _ both.0) (leb-true _ _ both.1))
@@ -58,7 +58,7 @@ module _ {A B : Type 0} (form : Form A B) {x : Result B × List Formula} (out : 
     -- it is written
     pub done_written : {out' : List ℕ} → length (form.body b) ≤ 65535 → length (form.write b) ≤ length out
         → out' ≡ form.write b ++ drop (length (form.write b)) out
-        → DoneAs form x out (Written (length (form.write b))) fs out'
+        → DoneAs form x out (Ok (length (form.write b))) fs out'
     done_written short room h =
         let fits : writable form b out ≡ true = (and-eq-true_iff _ _).1 (le-leb (length (form.body b)) 65535 short, le-leb (length (form.write b)) (length out) room) in
         record { answer_is = sym (answered_as fits); output_is = h ∙ sym (output_as fits); held_is = held }

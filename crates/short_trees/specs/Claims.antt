@@ -1,5 +1,5 @@
 -- What a caller of `shorten` and `expand` relies on, as statements: `Main` proves each of them. Assumes nothing: these are definitions.
-use Rattle.std.specs.Prelude.{◌≡◌, List, [], ℕ, length, take, drop}
+use Rattle.std.specs.Prelude.{Ok, Err, ◌≡◌, List, [], ℕ, length, take, drop}
 use Rattle.logic.specs.Sequent.{Question, to_one_sided}
 use Rattle.logic.specs.Tree.{Tree}
 use Rattle.logic.proofs.Demand3.{Good}
@@ -12,8 +12,8 @@ use Rattle.short.specs.LeastTree.{LeastTree}
 use Rattle.short_bytes.specs.Write.{write_short}
 use Rattle.short_bytes.specs.Read.{read_short}
 use Rattle.formula.specs.declared.Refusal.TheVariants.{HeldFull, OutputShort, WrongMemory}
-use Rattle.short_trees.specs.declared.Answer.{Answer}
-use Rattle.short_trees.specs.declared.Answer.TheVariants.{Written, Refused}
+use Rattle.short_trees.specs.Promise.{Answer}
+use Rattle.short_trees.specs.declared.Failure.TheVariants.{Refused}
 use Rattle.short_trees.specs.Promise.{Call, Left}
 
 -- two results are the same
@@ -24,9 +24,9 @@ pub record SameResult (left left' : Left) : Type 0 where
 
 -- 7, 10 and 12: what is lent has no room for the result, or is no memory
 pub data NoRoom : Answer → Type 0 where
-  held_full : NoRoom (Refused HeldFull)
-  output_short : NoRoom (Refused OutputShort)
-  wrong_memory : NoRoom (Refused WrongMemory)
+  held_full : NoRoom (Err (Refused HeldFull))
+  output_short : NoRoom (Err (Refused OutputShort))
+  wrong_memory : NoRoom (Err (Refused WrongMemory))
 
 -- the front bytes of the output are a tree's, that a reader gets back and strict mode accepts; it concludes the question, and demand 3 holds of it (`Good`, at document 01's greatest depth
 -- limit); the bytes behind are as they were
@@ -53,10 +53,10 @@ pub record TreeShortened (call : Call) (bytes : ℕ) (left : Left) : Type 0 wher
 
 -- the bytes stand in the front of the output, or 7, 10 or 12
 pub data Restored (bytes : List ℕ) (left : Left) : Type 0 where
-  restored : left.answer ≡ Written (length bytes) → take (length bytes) left.output ≡ bytes → Restored bytes left
+  restored : left.answer ≡ Ok (length bytes) → take (length bytes) left.output ≡ bytes → Restored bytes left
   not_restored : NoRoom left.answer → Restored bytes left
 
 -- something was written, or 7, 10 or 12
 pub data MadeOrNoRoom (left : Left) : Type 0 where
-  made : (n : ℕ) → left.answer ≡ Written n → MadeOrNoRoom left
+  made : (n : ℕ) → left.answer ≡ Ok n → MadeOrNoRoom left
   not_made : NoRoom left.answer → MadeOrNoRoom left

@@ -1,6 +1,6 @@
 -- Laws of `expand_read`, one for each way out: the first walk over the short tree that was read tells the result and its length, and the second one
 -- writes it. Assumes nothing.
-use Rattle.std.specs.Prelude.{◌≡◌, refl, ℕ, ◌+◌, ◌-◌, ◌≤◌, ◌<◌, length, set}
+use Rattle.std.specs.Prelude.{Ok, Err, ◌≡◌, refl, ℕ, ◌+◌, ◌-◌, ◌≤◌, ◌<◌, length, set}
 use Rattle.std.proofs.Common.{sym, ap, subst, ◌∙◌, arith}
 use mathlib.Core.List.{List, [], ◌++◌}
 use Rattle.std.proofs.lemmas.List.Edits.{sets}
@@ -11,7 +11,7 @@ use Rattle.logic.specs.Answer.{wrong_number, wrong_length, wrong_tag, too_high, 
 use Rattle.wire.specs.Write.{two_bytes, write_node, message, write_tree}
 use Rattle.wire.specs.Read as wire
 use Rattle.formula.specs.Answers.{coded}
-use Rattle.formula.specs.declared.Refusal.TheVariants.{HeldFull, TooMany, OutputShort}
+use Rattle.formula.specs.declared.Refusal.TheVariants.{OutputShort}
 use Rattle.held.specs.Words.{view}
 use Rattle.held.specs.WordsLaws.{extends_trans}
 use Rattle.zones.specs.declared.Zones.{Zones}
@@ -29,13 +29,14 @@ use Rattle.short_read.specs.ReadingLaws.{short_stands}
 use Rattle.step.specs.Taking.{sequent}
 use Rattle.step.specs.TakingLaws.{sequent_grows, sequent_same}
 use Rattle.grow.specs.declared.Grown.{Grown}
-use Rattle.grow.specs.declared.Grown.TheVariants as grown
-use Rattle.grow.specs.Growing.{on, Put, Growing, Told, GrownAs, Grows}
+use Rattle.grow.specs.declared.Stop.{Stop}
+use Rattle.grow.specs.declared.Stop.TheVariants as stop
+use Rattle.grow.specs.Growing.{Grow, on, Put, Growing, Told, GrownAs, Grows}
 use Rattle.short_trees.specs.Promise.{limits, expanding}
-use Rattle.short_trees.specs.Steps.{Readable, DoneAs, Done}
+use Rattle.short_trees.specs.Steps.{grow_failed, Readable, DoneAs, Done}
 use Rattle.short_trees.specs.HeldLaws.{closed_view, held_fits}
 use Rattle.short_trees.specs.AnswersLaws.{done_refused, done_mismatch, done_short, done_written, unwritten, front_room, front_kept, message_stored}
-use Rattle.short_trees.specs.declared.Answer.TheVariants.{Written, Mismatch, Refused}
+use Rattle.short_trees.specs.declared.Failure.TheVariants.{Refused}
 
 -- ---- the result, by the walk's answer
 
@@ -45,15 +46,15 @@ record MadeAs (y : Result Tree) (out : List ℕ) (to k : ℕ) (out' : List ℕ) 
   sized : k ≡ on to (length (write_node tree))
   put : Put (write_node tree) out to out'
 
-abbrev Apart : Result Tree → (out : List ℕ) (to : ℕ) → Grown → (out' : List ℕ) → Type 0
-Apart y out to (grown.Whole next k) out' = MadeAs y out to k out'
-Apart y out to grown.Full out' = y ≡ refused held_full
-Apart y out to grown.Mismatch out' = y ≡ mismatch
-Apart y out to grown.TooMany out' = y ≡ refused too_many
+abbrev Apart : Result Tree → (out : List ℕ) (to : ℕ) → Grow → (out' : List ℕ) → Type 0
+Apart y out to (Ok g) out' = MadeAs y out to g.to out'
+Apart y out to (Err stop.Full) out' = y ≡ refused held_full
+Apart y out to (Err stop.Mismatch) out' = y ≡ mismatch
+Apart y out to (Err stop.TooMany) out' = y ≡ refused too_many
 
-module _ (next : ℕ) (out : List ℕ) (to : ℕ) (r : Grown) (out' : List ℕ) where
-  by_answer : (y : Result Tree) {r' : Grown} → r ≡ r' → Apart y out to r' out' → Apart y out to r out'
-  by_answer y e h = subst (λ (r : Grown). Apart y out to r out') (sym e) h
+module _ (next : ℕ) (out : List ℕ) (to : ℕ) (r : Grow) (out' : List ℕ) where
+  by_answer : (y : Result Tree) {r' : Grow} → r ≡ r' → Apart y out to r' out' → Apart y out to r out'
+  by_answer y e h = subst (λ (r : Grow). Apart y out to r out') (sym e) h
 
   told_apart : (y : Result Tree) → Told y next out to r out' → Apart y out to r out'
   told_apart (made t) h = by_answer (made t) h.answer record { tree = t; made_is = refl; sized = refl; put = h.put }
@@ -86,7 +87,7 @@ module _ {m s : List ℕ} {z : Zones} (x : Readable expanding m s z) where
   pub expand_first : Growing m s 3 z 3
   expand_first = record { sound = x.sound; inside = message_long.0; short = message_long.1; from = omega arith; low = omega arith }
 
-  module _ (out : List ℕ) {r : Grown} {m₁ part : List ℕ} (g : Grows m s 3 z [] 3 r m₁ part) where
+  module _ (out : List ℕ) {r : Grow} {m₁ part : List ℕ} (g : Grows m s 3 z [] 3 r m₁ part) where
     same : part ++ out ≡ out
     same = unwritten part out g.long
 
@@ -99,45 +100,34 @@ module _ {m s : List ℕ} {z : Zones} (x : Readable expanding m s z) where
     apart : (a : Short) → read_short s ≡ wire.got a [] → Apart (result a).0 [] 3 r part
     apart a e = told_apart (3 + length (write_short_node a)) [] 3 r part (result a).0 (grown_as a e).told
 
-    pub expand_full : r ≡ grown.Full → Done expanding m s z out (Refused HeldFull) m₁ (part ++ out)
+    pub expand_stopped : (k : Stop) → r ≡ Err k → Done expanding m s z out (Err (grow_failed k)) m₁ (part ++ out)
     unfolding coded
-    expand_full e = rw same record {
-      wf = g.wf;
-      grew = g.grew;
-      is = λ a h. done_refused expanding out (grown_as a h).held held_full (subst (λ (r : Grown). Apart (result a).0 [] 3 r part) e (apart a h));
-    }
-
-    pub expand_crowded : r ≡ grown.TooMany → Done expanding m s z out (Refused TooMany) m₁ (part ++ out)
-    unfolding coded
-    expand_crowded e = rw same record {
-      wf = g.wf;
-      grew = g.grew;
-      is = λ a h. done_refused expanding out (grown_as a h).held too_many (subst (λ (r : Grown). Apart (result a).0 [] 3 r part) e (apart a h));
-    }
-
-    pub expand_mismatch : r ≡ grown.Mismatch → Done expanding m s z out Mismatch m₁ (part ++ out)
-    expand_mismatch e = rw same record {
-      wf = g.wf;
-      grew = g.grew;
-      is = λ a h. done_mismatch expanding out (grown_as a h).held (subst (λ (r : Grown). Apart (result a).0 [] 3 r part) e (apart a h));
-    }
+    expand_stopped k e = rw same record { wf = g.wf; grew = g.grew; is = λ a h. go k a (grown_as a h).held (subst (λ (r : Grow). Apart (result a).0 [] 3 r part) e (apart a h)) }
+      where
+        go : (k : Stop) (a : Short) → view m₁ ≡ (result a).1 → Apart (result a).0 [] 3 (Err k) part → DoneAs expanding (result a) out (Err (grow_failed k)) (view m₁) out
+        go stop.Full a held h = done_refused expanding out held held_full h
+        go stop.Mismatch a held h = done_mismatch expanding out held h
+        go stop.TooMany a held h = done_refused expanding out held too_many h
 
     -- the tree is so long, with version and length
-    module _ {next to : ℕ} (e : r ≡ grown.Whole next to) where
+    module _ {w : Grown} (e : r ≡ Ok w) where
+      abbrev to : ℕ
+      to = w.to
+
       made_as : (a : Short) → read_short s ≡ wire.got a [] → MadeAs (result a).0 [] 3 to part
-      made_as a h = subst (λ (r : Grown). Apart (result a).0 [] 3 r part) e (apart a h)
+      made_as a h = subst (λ (r : Grow). Apart (result a).0 [] 3 r part) e (apart a h)
 
       pub expand_from : 3 ≤ to
       expand_from = omega (arith, (made_as x.value x.read).sized)
 
-      pub expand_long : 65538 < to → Done expanding m s z out (Refused OutputShort) m₁ (part ++ out)
+      pub expand_long : 65538 < to → Done expanding m s z out (Err (Refused OutputShort)) m₁ (part ++ out)
       expand_long over = rw same record {
         wf = g.wf;
         grew = g.grew;
         is = λ a h. let d = made_as a h in done_short expanding out (grown_as a h).held d.made_is (λ short room. omega (arith, d.sized));
       }
 
-      pub expand_short : to ≤ 65538 → length (part ++ out) < to → Done expanding m s z out (Refused OutputShort) m₁ (part ++ out)
+      pub expand_short : to ≤ 65538 → length (part ++ out) < to → Done expanding m s z out (Err (Refused OutputShort)) m₁ (part ++ out)
       expand_short fits over = rw same record {
         wf = g.wf;
         grew = g.grew;
@@ -163,36 +153,47 @@ module _ {m s : List ℕ} {z : Zones} (x : Readable expanding m s z) where
         }
 
         -- the output is as long as it was
-        pub expand_kept : {out₁ : List ℕ} {next₁ : ℕ} {r₂ : Grown} {m₂ out₂ : List ℕ} → Wrote (set (part ++ out) 0 1) 1 (two_bytes (to - 3)) out₁ next₁
+        pub expand_kept : {out₁ : List ℕ} {next₁ : ℕ} {r₂ : Grow} {m₂ out₂ : List ℕ} → Wrote (set (part ++ out) 0 1) 1 (two_bytes (to - 3)) out₁ next₁
             → Grows m₁ s 3 z out₁ 3 r₂ m₂ out₂ → length out₂ ≡ length out
         expand_kept front g₂ = g₂.long ∙ front_kept 1 (part ++ out) (to - 3) front ∙ ap length same
 
-        pub expand_written : {out₁ : List ℕ} {next₁ : ℕ} {r₂ : Grown} {m₂ out₂ : List ℕ} → Wrote (set (part ++ out) 0 1) 1 (two_bytes (to - 3)) out₁ next₁
-            → Grows m₁ s 3 z out₁ 3 r₂ m₂ out₂ → Done expanding m s z out (Written to) m₂ out₂
-        unfolding write_tree message
-        expand_written {out₁} {next₁} {r₂} {m₂} {out₂} stored g₂ = record { wf = g₂.wf; grew = extends_trans g.grew g₂.grew; is = by_tree }
-          where
-            front : Wrote (set out 0 1) 1 (two_bytes (to - 3)) out₁ next₁
-            front = rw same at stored
+        module _ {out₁ : List ℕ} {next₁ : ℕ} {r₂ : Grow} {m₂ out₂ : List ℕ} (stored : Wrote (set (part ++ out) 0 1) 1 (two_bytes (to - 3)) out₁ next₁)
+            (g₂ : Grows m₁ s 3 z out₁ 3 r₂ m₂ out₂) where
+          front : Wrote (set out 0 1) 1 (two_bytes (to - 3)) out₁ next₁
+          front = rw same at stored
 
-            by_tree : (a : Short) → read_short s ≡ wire.got a [] → DoneAs expanding (result a) out (Written to) (view m₂) out₂
-            by_tree a h =
-                let there = root a h in
-                let d = made_as a h in
-                let t = d.tree in
-                let first : result a ≡ (made t, view m₁) = with_held (result a) d.made_is ∙ ap (λ (fs : List Formula). (made t, fs)) (sym (grown_as a h).held) in
-                let again : expand limits a (sequent m₁ z) (view m₁) ≡ (made t, view m₁) =
-                ap (λ (q : Sequent). expand limits a q (view m₁)) (sequent_same g.grew x.sound)
-                ∙ expand_again limits a (sequent m z) (view m) first stay_refl (closed_view g.wf) (held_fits g.wf)
-                in
-                let second : GrownAs (made t, view m₁) (3 + length (write_short_node a)) out₁ 3 r₂ (view m₂) out₂ =
-                subst (λ (y : Result Tree × List Formula). GrownAs y (3 + length (write_short_node a)) out₁ 3 r₂ (view m₂) out₂) again
-                (g₂.is a there.stands there.fits.nodes_fit)
-                in
-                let size : to ≡ 3 + length (write_node t) = omega (arith, d.sized) in
-                let sized : to - 3 ≡ length (write_node t) = omega arith in
-                let long = front_kept 1 out (to - 3) front in
-                let body : out₂ ≡ sets out₁ 3 (write_node t) = second.told.put.written (omega arith) (omega (arith, long, enough)) in
-                subst (λ (k : ℕ). DoneAs expanding (result a) out (Written k) (view m₂) out₂) (tree_length t ∙ sym size)
-                (done_written expanding out (second.held ∙ (grown_as a h).held) d.made_is (omega arith) (omega (arith, tree_length t, enough))
-                (message_stored 1 out (write_node t) sized (omega (arith, enough)) front body))
+          second_as : (a : Short) (h : read_short s ≡ wire.got a []) → GrownAs (made (made_as a h).tree, view m₁) (3 + length (write_short_node a)) out₁ 3 r₂ (view m₂) out₂
+          second_as a h =
+              let there = root a h in
+              let t = (made_as a h).tree in
+              let first : result a ≡ (made t, view m₁) =
+              with_held (result a) (made_as a h).made_is ∙ ap (λ (fs : List Formula). (made t, fs)) (sym (grown_as a h).held) in
+              let again : expand limits a (sequent m₁ z) (view m₁) ≡ (made t, view m₁) =
+              ap (λ (q : Sequent). expand limits a q (view m₁)) (sequent_same g.grew x.sound)
+              ∙ expand_again limits a (sequent m z) (view m) first stay_refl (closed_view g.wf) (held_fits g.wf)
+              in
+              subst (λ (y : Result Tree × List Formula). GrownAs y (3 + length (write_short_node a)) out₁ 3 r₂ (view m₂) out₂) again
+              (g₂.is a there.stands there.fits.nodes_fit)
+
+          -- the second walk does not stop
+          pub expand_goes_on : {k : Stop} → r₂ ≡ Err k → ⊥
+          expand_goes_on e₂ =
+              let w₂ = (second_as x.value x.read).told.answer in
+              let o : ◌≡◌ {A = ℕ} 0 1 = cc in omega arith
+
+          pub expand_written : Done expanding m s z out (Ok to) m₂ out₂
+          unfolding write_tree message
+          expand_written = record { wf = g₂.wf; grew = extends_trans g.grew g₂.grew; is = by_tree }
+            where
+              by_tree : (a : Short) → read_short s ≡ wire.got a [] → DoneAs expanding (result a) out (Ok to) (view m₂) out₂
+              by_tree a h =
+                  let d = made_as a h in
+                  let t = d.tree in
+                  let second = second_as a h in
+                  let size : to ≡ 3 + length (write_node t) = omega (arith, d.sized) in
+                  let sized : to - 3 ≡ length (write_node t) = omega arith in
+                  let long = front_kept 1 out (to - 3) front in
+                  let body : out₂ ≡ sets out₁ 3 (write_node t) = second.told.put.written (omega arith) (omega (arith, long, enough)) in
+                  subst (λ (k : ℕ). DoneAs expanding (result a) out (Ok k) (view m₂) out₂) (tree_length t ∙ sym size)
+                  (done_written expanding out (second.held ∙ (grown_as a h).held) d.made_is (omega arith) (omega (arith, tree_length t, enough))
+                  (message_stored 1 out (write_node t) sized (omega (arith, enough)) front body))

@@ -1,6 +1,6 @@
 -- What a caller of `shorten` and `expand` relies on: every theorem, each proved by a citation. The promises are `Shortens` and `Expands` (Promise.antt); the statements are in Claims.antt. The
 -- page of `prove` is crates/prover/specs/Main.antt. Assumes nothing.
-use Rattle.std.specs.Prelude.{◌≡◌, List, [], ℕ, suc, take}
+use Rattle.std.specs.Prelude.{Ok, ◌≡◌, List, [], ℕ, suc, take}
 use Rattle.std.proofs.Common.{ap, subst, ◌∙◌}
 use Rattle.logic.specs.Sequent.{Question, to_one_sided}
 use Rattle.logic.specs.Tree.{Tree}
@@ -19,7 +19,6 @@ use Rattle.short_bytes.specs.Write.{write_short}
 use Rattle.short_bytes.specs.Read.{read_short}
 use Rattle.short_bytes.specs.Fits.{ShortFits, ShortBack}
 use Rattle.short_bytes.proofs.ShortBytes as short_bytes
-use Rattle.short_trees.specs.declared.Answer.TheVariants.{Written}
 use Rattle.short_trees.specs.Promise.{Call, Left, Expands, Shortens, expanding, shortening}
 use Rattle.short_trees.specs.Claims.{SameResult, TreeExpanded, TreeShortened, Restored, MadeOrNoRoom}
 use Rattle.short_trees.specs.PromiseLaws as laws
@@ -32,15 +31,15 @@ pub shorten_once : {call : Call} {left left' : Left} → Shortens call left → 
 shorten_once = laws.no_second shortening
 
 -- whatever expands passes strict mode, and concludes the question as demand 3 says
-pub expanded_is_good : {call : Call} {left : Left} {n : ℕ} → Bytes call.question → Bytes call.message → Expands call left → left.answer ≡ Written n → TreeExpanded call n left
+pub expanded_is_good : {call : Call} {left : Left} {n : ℕ} → Bytes call.question → Bytes call.message → Expands call left → left.answer ≡ Ok n → TreeExpanded call n left
 expanded_is_good = laws.tree_expanded
 
 -- the least place, then the least mask, is written at every node, and the short tree's bytes read back
-pub least_is_written : {call : Call} {left : Left} {n : ℕ} → Bytes call.message → Shortens call left → left.answer ≡ Written n → TreeShortened call n left
+pub least_is_written : {call : Call} {left : Left} {n : ℕ} → Bytes call.message → Shortens call left → left.answer ≡ Ok n → TreeShortened call n left
 least_is_written = laws.tree_shortened
 
 -- expanding what was shortened gives the same bytes, where 7, 10 and 12 are not met
-pub shortened_then_expanded : {call call' : Call} {left left' : Left} {n : ℕ} → Bytes call.message → Shortens call left → left.answer ≡ Written n
+pub shortened_then_expanded : {call call' : Call} {left left' : Left} {n : ℕ} → Bytes call.message → Shortens call left → left.answer ≡ Ok n
     → call'.question ≡ call.question → call'.message ≡ take n left.output → Expands call' left' → Restored call.message left'
 shortened_then_expanded = laws.shortened_expands
 

@@ -1,7 +1,8 @@
 -- What `shorten` and `expand` promise, on any bytes and lent words (document 02, 11/12): 12; the question's 2 to 6 and its 7; the message's reading, all with nothing changed; then the
 -- definition's result over the formulas that the question has entered. Answer, every word of memory and every byte of the output are settled. Both calls have one form, over what the message
 -- is read as and what is made of it. Assumes nothing: these are definitions.
-use Rattle.std.specs.Prelude.{◌≡◌, Bool, true, false, ◌&&◌, List, [], ◌++◌, ℕ, ◌≤◌, ◌<◌, leb, length, drop}
+use Rattle.std.specs.Prelude as std
+use Rattle.std.specs.Prelude.{Ok, Err, ◌≡◌, Bool, true, false, ◌&&◌, List, [], ◌++◌, ℕ, ◌≤◌, ◌<◌, leb, length, drop}
 use Rattle.logic.specs.Formula.{Formula}
 use Rattle.logic.specs.Sequent.{Sequent, Question, to_one_sided}
 use Rattle.logic.specs.Tree.{Tree}
@@ -19,8 +20,8 @@ use Rattle.short.specs.Making.{Result, made, mismatch, refused, Making}
 use Rattle.short.specs.Shortening.{expand, shorten}
 use Rattle.short_bytes.specs.Write.{write_short_node, write_short}
 use Rattle.short_bytes.specs.Read.{read_short}
-use Rattle.short_trees.specs.declared.Answer.{Answer}
-use Rattle.short_trees.specs.declared.Answer.TheVariants.{Written, Mismatch, Refused}
+use Rattle.short_trees.specs.declared.Failure.{Failure}
+use Rattle.short_trees.specs.declared.Failure.TheVariants.{Mismatch, Refused}
 
 -- what is lent and asked: the bytes of the question and of the message, and the words of memory and output before the call
 pub record Call : Type 0 where
@@ -28,6 +29,10 @@ pub record Call : Type 0 where
   pub message : List ℕ
   pub memory : List ℕ
   pub output : List ℕ
+
+-- how many bytes were written, or why none were
+abbrev pub Answer : Type 0
+Answer = std.Result ℕ Failure
 
 -- what stands there after it
 pub record Left : Type 0 where
@@ -43,13 +48,13 @@ left_of r m out = record { answer = r; memory = m; output = out }
 
 -- document 01's number for an answer; 15 is that the tree is none that the search's rules build for the question
 abbrev pub answer_number : Answer → ℕ
-answer_number (Written n) = 0
-answer_number Mismatch = 15
-answer_number (Refused k) = number_of k
+answer_number (Ok n) = 0
+answer_number (Err Mismatch) = 15
+answer_number (Err (Refused k)) = number_of k
 
 -- a refusal before the first node: nothing has changed
 abbrev pub unchanged : answer.Refusal → Call → Left
-unchanged k call = left_of (Refused (coded k)) call.memory call.output
+unchanged k call = left_of (Err (Refused (coded k))) call.memory call.output
 
 -- the limits in force: document 01's. No visit is counted here
 abbrev pub limits : Limits
@@ -69,9 +74,9 @@ module _ {A B : Type 0} (form : Form A B) where
 
   -- the answer to a result, and the output after it
   unfoldable pub answered : Result B → List ℕ → Answer
-  answered (made b) out = elim (writable b out) [ true ↦ Written (length (form.write b)) | false ↦ Refused OutputShort ]
-  answered mismatch out = Mismatch
-  answered (refused k) out = Refused (coded k)
+  answered (made b) out = elim (writable b out) [ true ↦ Ok (length (form.write b)) | false ↦ Err (Refused OutputShort) ]
+  answered mismatch out = Err Mismatch
+  answered (refused k) out = Err (Refused (coded k))
 
   unfoldable pub output_after : Result B → List ℕ → List ℕ
   output_after (made b) out = elim (writable b out) [ true ↦ form.write b ++ drop (length (form.write b)) out | false ↦ out ]

@@ -2,7 +2,7 @@
 -- bytes; whatever the search's rules build for the question shortens. Assumes nothing.
 use Rattle.std.proofs.Math.Path.{◌≡◌, refl, ap, subst}
 use Rattle.std.proofs.Common.{sym, ◌∙◌, ⊎_elim, arith}
-use Rattle.std.specs.Prelude.{Bool, ◌⊎◌, ℕ, ◌≤◌, ◌<◌, leb, take}
+use Rattle.std.specs.Prelude.{Ok, Err, Bool, ◌⊎◌, ℕ, ◌≤◌, ◌<◌, leb, take}
 use Rattle.std.proofs.Math.Bool.{true, false, and-eq-true_iff}
 use Rattle.std.proofs.Math.Logic.{inl, inr}
 use mathlib.Core.List.{List, [], ◌++◌}
@@ -68,8 +68,8 @@ use Rattle.short_bytes.specs.Write.{has_mask}
 use Rattle.short_bytes.specs.Read.{read_short}
 use Rattle.short_bytes.specs.Fits.{HasShort, MaskFits, ShortNodesFit, ShortNodesFit*, ShortFits}
 use Rattle.short_bytes.proofs.ShortBytes.{read_write_short, write_read_short}
-use Rattle.short_trees.specs.declared.Answer.{Answer}
-use Rattle.short_trees.specs.declared.Answer.TheVariants.{Written, Refused}
+use Rattle.short_trees.specs.Promise.{Answer}
+use Rattle.short_trees.specs.declared.Failure.TheVariants.{Refused}
 use Rattle.short_trees.specs.Promise.{
   Call,
   Left,
@@ -163,12 +163,12 @@ module _ {A B : Type 0} (form : Form A B) where
     front : take n out' ≡ form.write b
     behind : drop n out' ≡ drop n out
 
-  wrote_made : (b : B) (out : List ℕ) {n : ℕ} {out' : List ℕ} → Written n ≡ answered form (made b) out → out' ≡ output_after form (made b) out → Wrote b out n out'
+  wrote_made : (b : B) (out : List ℕ) {n : ℕ} {out' : List ℕ} → Ok n ≡ answered form (made b) out → out' ≡ output_after form (made b) out → Wrote b out n out'
   unfolding answered output_after
   wrote_made b out {n} {out'} e f = go (writable form b out) refl e f
     where
       go : (t : Bool) → writable form b out ≡ t
-          → Written n ≡ elim t as (λ _. Answer) [ true ↦ Written (length (form.write b)) | false ↦ Refused OutputShort ]
+          → Ok n ≡ elim t as (λ _. Answer) [ true ↦ Ok (length (form.write b)) | false ↦ Err (Refused OutputShort) ]
           → out' ≡ elim t as (λ _. List ℕ) [ true ↦ form.write b ++ drop (length (form.write b)) out | false ↦ out ] → Wrote b out n out'
       go true t e f =
           let size : n ≡ length (form.write b) = cc in
@@ -185,7 +185,7 @@ module _ {A B : Type 0} (form : Form A B) where
     is : x ≡ made value
     wrote : Wrote value out n out'
 
-  wrote_some : (x : Result B) (out : List ℕ) {n : ℕ} {out' : List ℕ} → Written n ≡ answered form x out → out' ≡ output_after form x out → WroteSome x out n out'
+  wrote_some : (x : Result B) (out : List ℕ) {n : ℕ} {out' : List ℕ} → Ok n ≡ answered form x out → out' ≡ output_after form x out → WroteSome x out n out'
   unfolding answered
   wrote_some (made b) out e f = record { value = b; is = refl; wrote = wrote_made b out e f }
   wrote_some mismatch out e f = let z : ◌≡◌ {A = ℕ} 0 1 = cc in absurd (omega arith)
@@ -199,10 +199,10 @@ module _ {A B : Type 0} (form : Form A B) where
     message_read : form.read call.message ≡ wire.got value []
     some : WroteSome (result form call question value).0 call.output n left.output
 
-  unwritten : (call : Call) (k : answer.Refusal) {left : Left} {n : ℕ} → left ≡ unchanged k call → left.answer ≡ Written n → ⊥
-  unwritten call k e h = let w : Refused (coded k) ≡ Written _ = sym (ap (λ l. l.answer) e) ∙ h in let z : ◌≡◌ {A = ℕ} 0 1 = cc in omega arith
+  unwritten : (call : Call) (k : answer.Refusal) {left : Left} {n : ℕ} → left ≡ unchanged k call → left.answer ≡ Ok n → ⊥
+  unwritten call k e h = let w : Err (Refused (coded k)) ≡ Ok _ = sym (ap (λ l. l.answer) e) ∙ h in let z : ◌≡◌ {A = ℕ} 0 1 = cc in omega arith
 
-  taken_as : {call : Call} {left : Left} {n : ℕ} → Promise form call left → left.answer ≡ Written n → TakenAs call n left
+  taken_as : {call : Call} {left : Left} {n : ℕ} → Promise form call left → left.answer ≡ Ok n → TakenAs call n left
   taken_as {call} (memory_refused m e) h = absurd (unwritten call _ e h)
   taken_as {call} (question_refused w k r e) h = absurd (unwritten call _ e h)
   taken_as {call} (question_over w q r o e) h = absurd (unwritten call _ e h)
@@ -234,7 +234,7 @@ question_few : {s : List ℕ} (bytes : Bytes s) {q : Question} → wire.read_que
 unfolding turned
 question_few {s} bytes {q} e = (turned_fits q (write_read_question s q [] bytes e).fits).zones_fit.few_formulas
 
-pub tree_expanded : {call : Call} {left : Left} {n : ℕ} → Bytes call.question → Bytes call.message → Expands call left → left.answer ≡ Written n → TreeExpanded call n left
+pub tree_expanded : {call : Call} {left : Left} {n : ℕ} → Bytes call.question → Bytes call.message → Expands call left → left.answer ≡ Ok n → TreeExpanded call n left
 unfolding turned
 tree_expanded {call} {left} {n} b b' p h =
     let x = taken_as expanding p h in
@@ -306,7 +306,7 @@ record ShortThere (call : Call) (n : ℕ) (left : Left) : Type 0 where
   reads : read_short (take n left.output) ≡ wire.got taken.some.value []
   few : Few taken.value
 
-short_there : {call : Call} {left : Left} {n : ℕ} → Bytes call.message → Shortens call left → left.answer ≡ Written n → ShortThere call n left
+short_there : {call : Call} {left : Left} {n : ℕ} → Bytes call.message → Shortens call left → left.answer ≡ Ok n → ShortThere call n left
 short_there {call} {left} {n} b p h =
     let x = taken_as shortening p h in
     let t = x.value in
@@ -320,7 +320,7 @@ short_there {call} {left} {n} b p h =
     } in
     record { taken = x; reads = ap read_short x.some.wrote.front ∙ read_write_short s fits; few = few }
 
-pub tree_shortened : {call : Call} {left : Left} {n : ℕ} → Bytes call.message → Shortens call left → left.answer ≡ Written n → TreeShortened call n left
+pub tree_shortened : {call : Call} {left : Left} {n : ℕ} → Bytes call.message → Shortens call left → left.answer ≡ Ok n → TreeShortened call n left
 tree_shortened {call} {left} {n} b p h =
     let y = short_there b p h in
     let x = y.taken in
@@ -339,13 +339,13 @@ tree_shortened {call} {left} {n} b p h =
 -- the answer to a result that is written or too long; and to 7
 module _ {A B : Type 0} (form : Form A B) where
   made_answer : (b : B) (out : List ℕ) {r : Answer} {out' : List ℕ} → r ≡ answered form (made b) out → out' ≡ output_after form (made b) out
-      → ((r ≡ Written (length (form.write b))) × (take (length (form.write b)) out' ≡ form.write b)) ⊎ NoRoom r
+      → ((r ≡ Ok (length (form.write b))) × (take (length (form.write b)) out' ≡ form.write b)) ⊎ NoRoom r
   unfolding answered output_after
   made_answer b out {r} {out'} e f = go (writable form b out) e f
     where
-      go : (t : Bool) → r ≡ elim t as (λ _. Answer) [ true ↦ Written (length (form.write b)) | false ↦ Refused OutputShort ]
+      go : (t : Bool) → r ≡ elim t as (λ _. Answer) [ true ↦ Ok (length (form.write b)) | false ↦ Err (Refused OutputShort) ]
           → out' ≡ elim t as (λ _. List ℕ) [ true ↦ form.write b ++ drop (length (form.write b)) out | false ↦ out ]
-          → ((r ≡ Written (length (form.write b))) × (take (length (form.write b)) out' ≡ form.write b)) ⊎ NoRoom r
+          → ((r ≡ Ok (length (form.write b))) × (take (length (form.write b)) out' ≡ form.write b)) ⊎ NoRoom r
       go true e f = inl (e, ap (take (length (form.write b))) f ∙ take_at (form.write b) _ _ refl)
       go false e f = inr (subst NoRoom (sym e) output_short)
 
@@ -355,14 +355,14 @@ module _ {A B : Type 0} (form : Form A B) where
 
   -- a result that is this value or 7, whatever is held
   made_or_full : {x : Result B} (b : B) (out : List ℕ) {r : Answer} {out' : List ℕ} → (x ≡ made b) ⊎ (x ≡ refused answer.held_full) → r ≡ answered form x out → out' ≡ output_after form x out
-      → ((r ≡ Written (length (form.write b))) × (take (length (form.write b)) out' ≡ form.write b)) ⊎ NoRoom r
+      → ((r ≡ Ok (length (form.write b))) × (take (length (form.write b)) out' ≡ form.write b)) ⊎ NoRoom r
   made_or_full {x} b out {r} {out'} c e f =
       ⊎_elim (λ h. made_answer b out (e ∙ ap (λ y. answered form y out) h) (f ∙ ap (λ y. output_after form y out) h)) (λ h. inr (full_answer out (e ∙ ap (λ y. answered form y out) h))) c
 
   -- the ways in which a call ends whose question and message can be read, where the message's result is this value or 7
   ways : {call : Call} {left : Left} {q : Question} {a : A} (b : B) → wire.read_question call.question ≡ wire.got q [] → form.read call.message ≡ wire.got a []
       → ((fs : List Formula) → ((form.make a (to_one_sided q) fs).0 ≡ made b) ⊎ ((form.make a (to_one_sided q) fs).0 ≡ refused answer.held_full)) → Promise form call left
-      → ((left.answer ≡ Written (length (form.write b))) × (take (length (form.write b)) left.output ≡ form.write b)) ⊎ NoRoom left.answer
+      → ((left.answer ≡ Ok (length (form.write b))) × (take (length (form.write b)) left.output ≡ form.write b)) ⊎ NoRoom left.answer
   unfolding coded
   ways b r m c (memory_refused n e) = inr (subst NoRoom (sym (ap (λ l. l.answer) e)) wrong_memory)
   ways b r m c (question_refused w k r' e) = absurd (got_or_refused r r')
@@ -373,7 +373,7 @@ module _ {A B : Type 0} (form : Form A B) where
       made_or_full b call.output (c _) (z.answer_is ∙ ap (λ y. answered form y.0 call.output) same) (z.output_is ∙ ap (λ y. output_after form y.0 call.output) same)
 
 -- what was shortened expands to the same bytes
-pub shortened_expands : {call call' : Call} {left left' : Left} {n : ℕ} → Bytes call.message → Shortens call left → left.answer ≡ Written n
+pub shortened_expands : {call call' : Call} {left left' : Left} {n : ℕ} → Bytes call.message → Shortens call left → left.answer ≡ Ok n
     → call'.question ≡ call.question → call'.message ≡ take n left.output → Expands call' left' → Restored call.message left'
 shortened_expands {call} {call'} {left} {left'} {n} b p h eq em p' =
     let y = short_there b p h in
@@ -382,7 +382,7 @@ shortened_expands {call} {call'} {left} {left'} {n} b p h eq em p' =
     let bytes : write_tree t ≡ call.message = (write_read_tree call.message t [] b x.message_read).bytes_are in
     let end = ways expanding t (ap wire.read_question eq ∙ x.read) (ap read_short em ∙ y.reads) (shorten_expands 0 t (to_one_sided x.question) _ y.few x.some.is) p' in
     ⊎_elim
-    (λ w. restored (w.0 ∙ ap (λ l. Written (length l)) bytes) (subst (λ l. take (length l) left'.output ≡ l) bytes w.1))
+    (λ w. restored (w.0 ∙ ap (λ l. Ok (length l)) bytes) (subst (λ l. take (length l) left'.output ≡ l) bytes w.1))
     (λ w. claims.not_restored w)
     end
 

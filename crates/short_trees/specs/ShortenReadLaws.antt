@@ -1,6 +1,6 @@
 -- Laws of `shorten_read`, one for each way out: the root spelled out and compared, then the first walk over the tree that was read tells the result and
 -- its length, and the second one writes it. Assumes nothing.
-use Rattle.std.specs.Prelude.{◌≡◌, refl, Bool, true, false, cond, ℕ, ◌+◌, ◌-◌, ◌≤◌, ◌<◌, set}
+use Rattle.std.specs.Prelude.{Option, None, Some, Ok, Err, ◌≡◌, refl, Bool, true, false, cond, ℕ, ◌+◌, ◌-◌, ◌≤◌, ◌<◌, set}
 use Rattle.std.proofs.Common.{sym, subst, ◌∙◌, arith}
 use Rattle.std.proofs.Math.Path.{ap}
 use mathlib.Core.List.{List, [], ◌∷◌, ◌++◌}
@@ -36,18 +36,18 @@ use Rattle.short.proofs.ShortenLaws.{shorten_again}
 use Rattle.short_bytes.specs.Write.{write_short_node, message_two, write_short}
 use Rattle.step.specs.Taking.{sequent, if_full, SpeltTo}
 use Rattle.step.specs.TakingLaws.{sequent_grows, sequent_same}
-use Rattle.step.specs.declared.Spelt.{Spelt}
 use Rattle.shown.specs.Matching.{Shown}
 use Rattle.shown.specs.ShownLaws.{same_sequent_symmetric}
 use Rattle.shrink.specs.declared.Shrunk.{Shrunk}
-use Rattle.shrink.specs.declared.Shrunk.TheVariants as shrunk
-use Rattle.shrink.specs.Shrinking.{Put, Shrinking, Told, ShrunkAs, Shrinks, shorten_spelt}
+use Rattle.shrink.specs.declared.Stop.{Stop}
+use Rattle.shrink.specs.declared.Stop.TheVariants as stop
+use Rattle.shrink.specs.Shrinking.{Shrink, Put, Shrinking, Told, ShrunkAs, Shrinks, shorten_spelt}
 use Rattle.shrink.specs.ShrinkingLaws.{shorten_tail, shorten_goes, shorten_full, short_shorter}
 use Rattle.short_trees.specs.Promise.{limits, shortening}
-use Rattle.short_trees.specs.Steps.{Readable, DoneAs, Done}
+use Rattle.short_trees.specs.Steps.{shrink_failed, Readable, DoneAs, Done}
 use Rattle.short_trees.specs.HeldLaws.{closed_view, held_fits, extends_stay}
 use Rattle.short_trees.specs.AnswersLaws.{done_refused, done_mismatch, done_short, done_written, unwritten, front_room, front_kept, message_stored}
-use Rattle.short_trees.specs.declared.Answer.TheVariants.{Written, Mismatch, Refused}
+use Rattle.short_trees.specs.declared.Failure.TheVariants.{Mismatch, Refused}
 
 -- ---- a sequent spelled out is spelled out
 
@@ -88,14 +88,14 @@ record MadeAs (y : Result Short) (out : List ℕ) (to k : ℕ) (out' : List ℕ)
   sized : k ≡ to + length (write_short_node tree)
   put : Put (write_short_node tree) out to out'
 
-abbrev Apart : Result Short → (out : List ℕ) (to : ℕ) → Shrunk → (out' : List ℕ) → Type 0
-Apart y out to (shrunk.Whole next k) out' = MadeAs y out to k out'
-Apart y out to shrunk.Full out' = y ≡ refused held_full
-Apart y out to shrunk.Mismatch out' = y ≡ mismatch
+abbrev Apart : Result Short → (out : List ℕ) (to : ℕ) → Shrink → (out' : List ℕ) → Type 0
+Apart y out to (Ok g) out' = MadeAs y out to g.to out'
+Apart y out to (Err stop.Full) out' = y ≡ refused held_full
+Apart y out to (Err stop.Mismatch) out' = y ≡ mismatch
 
-module _ (next : ℕ) (out : List ℕ) (to : ℕ) (r : Shrunk) (out' : List ℕ) where
-  by_answer : (y : Result Short) {r' : Shrunk} → r ≡ r' → Apart y out to r' out' → Apart y out to r out'
-  by_answer y e h = subst (λ (r : Shrunk). Apart y out to r out') (sym e) h
+module _ (next : ℕ) (out : List ℕ) (to : ℕ) (r : Shrink) (out' : List ℕ) where
+  by_answer : (y : Result Short) {r' : Shrink} → r ≡ r' → Apart y out to r' out' → Apart y out to r out'
+  by_answer y e h = subst (λ (r : Shrink). Apart y out to r out') (sym e) h
 
   told_apart : (y : Result Short) → Told y next out to r out' → Apart y out to r out'
   told_apart (made t) h = by_answer (made t) h.answer record { tree = t; made_is = refl; sized = refl; put = h.put }
@@ -151,8 +151,8 @@ module _ {m s : List ℕ} {z : Zones} (x : Readable shortening m s z) where
   result t = shorten limits t (sequent m z) (view m)
 
   -- the root's implication spelled out
-  module _ (out : List ℕ) {p : Spelt} {m₁ : List ℕ} (spelled : SpeltTo m z p m₁) where
-    pub shorten_no_room : p.full ≡ true → Done shortening m s z out (Refused HeldFull) m₁ out
+  module _ (out : List ℕ) {p : Option Zones} {m₁ : List ℕ} (spelled : SpeltTo m z p m₁) where
+    pub shorten_no_room : p ≡ None → Done shortening m s z out (Err (Refused HeldFull)) m₁ out
     unfolding coded
     shorten_no_room full = record {
       wf = spelled.wf;
@@ -161,20 +161,20 @@ module _ {m s : List ℕ} {z : Zones} (x : Readable shortening m s z) where
     }
       where
         is_full : (t : Tree) → result t ≡ (refused held_full, view m₁)
-        is_full t = shorten_full t (sequent m z) (view m) (view m₁) (spelled.made_is ∙ ap (λ (b : Bool). (if_full b, view m₁)) full)
+        is_full t = shorten_full t (sequent m z) (view m) (view m₁) (spelled.made_is ∙ ap (λ (r : Option Zones). (if_full r, view m₁)) full)
 
-    module _ (held : p.full ≡ false) where
+    module _ {z₁ : Zones} (held : p ≡ Some z₁) where
       spells : spelt limits.held (sequent m z) (view m) ≡ (made tt, view m₁)
-      spells = spelled.made_is ∙ ap (λ (b : Bool). (if_full b, view m₁)) held
+      spells = spelled.made_is ∙ ap (λ (r : Option Zones). (if_full r, view m₁)) held
 
-      means : Means m₁ (concluded (sequent m z)) p.zones
-      means = spelled.means held
+      means : Means m₁ (concluded (sequent m z)) z₁
+      means = rw held at spelled.means
 
       -- what comparing the root asks
-      pub shorten_shows : Sound m₁ p.zones × (3 ≤ length s)
+      pub shorten_shows : Sound m₁ z₁ × (3 ≤ length s)
       shorten_shows = (means.sound, message_long.0)
 
-      module _ {b : Bool} (shown : Shown m₁ p.zones s 3 b) where
+      module _ {b : Bool} (shown : Shown m₁ z₁ s 3 b) where
         shown_is : (t : Tree) → read_tree s ≡ wire.got t [] → b ≡ same_sequent (conclusion t) (concluded (sequent m z))
         shown_is (node r c ts) e =
             let there = root (node r c ts) e in
@@ -182,7 +182,7 @@ module _ {m s : List ℕ} {z : Zones} (x : Readable shortening m s z) where
             ∙ ap (λ (q : Sequent). same_sequent q c) (ap (λ (q : Sequent). concluded q) means.means ∙ concluded_twice (sequent m z))
             ∙ same_sequent_symmetric (concluded (sequent m z)) c
 
-        pub shorten_unlike : b ≡ false → Done shortening m s z out Mismatch m₁ out
+        pub shorten_unlike : b ≡ false → Done shortening m s z out (Err Mismatch) m₁ out
         shorten_unlike other = record {
           wf = spelled.wf;
           grew = spelled.grew;
@@ -196,10 +196,10 @@ module _ {m s : List ℕ} {z : Zones} (x : Readable shortening m s z) where
           concludes : (t : Tree) → read_tree s ≡ wire.got t [] → conclusion t ≡ concluded (sequent m z)
           concludes t e = (same_sequent_iff (conclusion t) (concluded (sequent m z))).0 (sym (shown_is t e) ∙ yes_shown)
 
-          pub shorten_first : Shrinking m₁ s 3 p.zones 3
+          pub shorten_first : Shrinking m₁ s 3 z₁ 3
           shorten_first = record { sound = means.sound; inside = message_long.0; short = message_long.1; room = omega (arith, message_long.1) }
 
-          module _ {r : Shrunk} {m₂ part : List ℕ} (g : Shrinks m₁ s 3 p.zones [] 3 r m₂ part) where
+          module _ {r : Shrink} {m₂ part : List ℕ} (g : Shrinks m₁ s 3 z₁ [] 3 r m₂ part) where
             same : part ++ out ≡ out
             same = unwritten part out g.long
 
@@ -213,25 +213,26 @@ module _ {m s : List ℕ} {z : Zones} (x : Readable shortening m s z) where
             apart : (t : Tree) → read_tree s ≡ wire.got t [] → Apart (result t).0 [] 3 r part
             apart t e = told_apart (3 + length (write_node t)) [] 3 r part (result t).0 (shrunk_as t e).told
 
-            pub shorten_over : r ≡ shrunk.Full → Done shortening m s z out (Refused HeldFull) m₂ (part ++ out)
+            pub shorten_stopped : (k : Stop) → r ≡ Err k → Done shortening m s z out (Err (shrink_failed k)) m₂ (part ++ out)
             unfolding coded
-            shorten_over e = rw same record {
+            shorten_stopped k e = rw same record {
               wf = g.wf;
               grew = extends_trans spelled.grew g.grew;
-              is = λ t h. done_refused shortening out (shrunk_as t h).held held_full (subst (λ (r : Shrunk). Apart (result t).0 [] 3 r part) e (apart t h));
+              is = λ t h. go k t (shrunk_as t h).held (subst (λ (r : Shrink). Apart (result t).0 [] 3 r part) e (apart t h));
             }
-
-            pub shorten_mismatch : r ≡ shrunk.Mismatch → Done shortening m s z out Mismatch m₂ (part ++ out)
-            shorten_mismatch e = rw same record {
-              wf = g.wf;
-              grew = extends_trans spelled.grew g.grew;
-              is = λ t h. done_mismatch shortening out (shrunk_as t h).held (subst (λ (r : Shrunk). Apart (result t).0 [] 3 r part) e (apart t h));
-            }
+              where
+                go : (k : Stop) (t : Tree) → view m₂ ≡ (result t).1 → Apart (result t).0 [] 3 (Err k) part
+                    → DoneAs shortening (result t) out (Err (shrink_failed k)) (view m₂) out
+                go stop.Full t held h = done_refused shortening out held held_full h
+                go stop.Mismatch t held h = done_mismatch shortening out held h
 
             -- the short tree is so long, with version and length
-            module _ {next to : ℕ} (e : r ≡ shrunk.Whole next to) where
+            module _ {w : Shrunk} (e : r ≡ Ok w) where
+              abbrev to : ℕ
+              to = w.to
+
               made_as : (t : Tree) → read_tree s ≡ wire.got t [] → MadeAs (result t).0 [] 3 to part
-              made_as t h = subst (λ (r : Shrunk). Apart (result t).0 [] 3 r part) e (apart t h)
+              made_as t h = subst (λ (r : Shrink). Apart (result t).0 [] 3 r part) e (apart t h)
 
               -- it is no longer than the tree
               shorter : (t : Tree) (h : read_tree s ≡ wire.got t []) → length (write_short_node (made_as t h).tree) ≤ 65535
@@ -241,7 +242,7 @@ module _ {m s : List ℕ} {z : Zones} (x : Readable shortening m s z) where
               shorten_from =
                   let d = made_as x.value x.read in (omega (arith, d.sized), omega (arith, d.sized, shorter x.value x.read))
 
-              pub shorten_short : length (part ++ out) < to → Done shortening m s z out (Refused OutputShort) m₂ (part ++ out)
+              pub shorten_short : length (part ++ out) < to → Done shortening m s z out (Err (Refused OutputShort)) m₂ (part ++ out)
               shorten_short over = rw same record {
                 wf = g.wf;
                 grew = extends_trans spelled.grew g.grew;
@@ -257,7 +258,7 @@ module _ {m s : List ℕ} {z : Zones} (x : Readable shortening m s z) where
                 pub shorten_front : (to - 3 < 65536) × (1 + 2 ≤ length (set (part ++ out) 0 2))
                 shorten_front = front_room 2 (part ++ out) (omega (arith, shorten_from.1)) (omega (arith, shorten_from.0))
 
-                pub shorten_second : Shrinking m₂ s 3 p.zones 3
+                pub shorten_second : Shrinking m₂ s 3 z₁ 3
                 shorten_second = record {
                   sound = sequent_grows g.grew g.wf means.sound;
                   inside = message_long.0;
@@ -279,31 +280,39 @@ module _ {m s : List ℕ} {z : Zones} (x : Readable shortening m s z) where
                     ∙ shorten_again limits t (sequent m z) (view m) first stay_refl (closed_view g.wf) (held_fits g.wf)
 
                 -- the output is as long as it was
-                pub shorten_kept : {out₁ : List ℕ} {next₁ : ℕ} {r₂ : Shrunk} {m₃ out₂ : List ℕ} → Wrote (set (part ++ out) 0 2) 1 (two_bytes (to - 3)) out₁ next₁
-                    → Shrinks m₂ s 3 p.zones out₁ 3 r₂ m₃ out₂ → length out₂ ≡ length out
+                pub shorten_kept : {out₁ : List ℕ} {next₁ : ℕ} {r₂ : Shrink} {m₃ out₂ : List ℕ} → Wrote (set (part ++ out) 0 2) 1 (two_bytes (to - 3)) out₁ next₁
+                    → Shrinks m₂ s 3 z₁ out₁ 3 r₂ m₃ out₂ → length out₂ ≡ length out
                 shorten_kept front g₂ = g₂.long ∙ front_kept 2 (part ++ out) (to - 3) front ∙ ap length same
 
-                pub shorten_written : {out₁ : List ℕ} {next₁ : ℕ} {r₂ : Shrunk} {m₃ out₂ : List ℕ} → Wrote (set (part ++ out) 0 2) 1 (two_bytes (to - 3)) out₁ next₁
-                    → Shrinks m₂ s 3 p.zones out₁ 3 r₂ m₃ out₂ → Done shortening m s z out (Written to) m₃ out₂
-                unfolding write_short message_two
-                shorten_written {out₁} {next₁} {r₂} {m₃} {out₂} wrote g₂ =
-                    record { wf = g₂.wf; grew = extends_trans spelled.grew (extends_trans g.grew g₂.grew); is = by_tree }
-                  where
-                    front : Wrote (set out 0 2) 1 (two_bytes (to - 3)) out₁ next₁
-                    front = rw same at wrote
+                module _ {out₁ : List ℕ} {next₁ : ℕ} {r₂ : Shrink} {m₃ out₂ : List ℕ} (wrote : Wrote (set (part ++ out) 0 2) 1 (two_bytes (to - 3)) out₁ next₁)
+                    (g₂ : Shrinks m₂ s 3 z₁ out₁ 3 r₂ m₃ out₂) where
+                  front : Wrote (set out 0 2) 1 (two_bytes (to - 3)) out₁ next₁
+                  front = rw same at wrote
 
-                    by_tree : (t : Tree) → read_tree s ≡ wire.got t [] → DoneAs shortening (result t) out (Written to) (view m₃) out₂
-                    by_tree t h =
-                        let there = root t h in
-                        let d = made_as t h in
-                        let body = write_short_node d.tree in
-                        let second : ShrunkAs (made d.tree, view m₂) (3 + length (write_node t)) out₁ 3 r₂ (view m₃) out₂ =
-                        subst (λ (y : Result Short × List Formula). ShrunkAs y (3 + length (write_node t)) out₁ 3 r₂ (view m₃) out₂) (again t h)
-                        (g₂.is t there.stands there.fits (concludes t h ∙ sym means.means ∙ sym (sequent_same g.grew means.sound)))
-                        in
-                        let sized : to - 3 ≡ length body = omega (arith, d.sized) in
-                        let long = front_kept 2 out (to - 3) front in
-                        let stored : out₂ ≡ sets out₁ 3 body = second.told.put.written (omega (arith, d.sized, long, enough)) in
-                        subst (λ (k : ℕ). DoneAs shortening (result t) out (Written k) (view m₃) out₂) (short_length d.tree ∙ sym d.sized)
-                        (done_written shortening out (second.held ∙ (shrunk_as t h).held) d.made_is (shorter t h) (omega (arith, d.sized, short_length d.tree, enough))
-                        (message_stored 2 out body sized (omega (arith, d.sized, enough)) front stored))
+                  second_as : (t : Tree) (h : read_tree s ≡ wire.got t []) → ShrunkAs (made (made_as t h).tree, view m₂) (3 + length (write_node t)) out₁ 3 r₂ (view m₃) out₂
+                  second_as t h =
+                      let there = root t h in
+                      subst (λ (y : Result Short × List Formula). ShrunkAs y (3 + length (write_node t)) out₁ 3 r₂ (view m₃) out₂) (again t h)
+                      (g₂.is t there.stands there.fits (concludes t h ∙ sym means.means ∙ sym (sequent_same g.grew means.sound)))
+
+                  -- the second walk does not stop
+                  pub shorten_goes_on : {k : Stop} → r₂ ≡ Err k → ⊥
+                  shorten_goes_on e₂ =
+                      let w₂ = (second_as x.value x.read).told.answer in
+                      let o : ◌≡◌ {A = ℕ} 0 1 = cc in omega arith
+
+                  pub shorten_written : Done shortening m s z out (Ok to) m₃ out₂
+                  unfolding write_short message_two
+                  shorten_written = record { wf = g₂.wf; grew = extends_trans spelled.grew (extends_trans g.grew g₂.grew); is = by_tree }
+                    where
+                      by_tree : (t : Tree) → read_tree s ≡ wire.got t [] → DoneAs shortening (result t) out (Ok to) (view m₃) out₂
+                      by_tree t h =
+                          let d = made_as t h in
+                          let body = write_short_node d.tree in
+                          let second = second_as t h in
+                          let sized : to - 3 ≡ length body = omega (arith, d.sized) in
+                          let long = front_kept 2 out (to - 3) front in
+                          let stored : out₂ ≡ sets out₁ 3 body = second.told.put.written (omega (arith, d.sized, long, enough)) in
+                          subst (λ (k : ℕ). DoneAs shortening (result t) out (Ok k) (view m₃) out₂) (short_length d.tree ∙ sym d.sized)
+                          (done_written shortening out (second.held ∙ (shrunk_as t h).held) d.made_is (shorter t h) (omega (arith, d.sized, short_length d.tree, enough))
+                          (message_stored 2 out body sized (omega (arith, d.sized, enough)) front stored))

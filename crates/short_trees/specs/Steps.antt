@@ -1,5 +1,5 @@
 -- What the functions below both calls ask and answer, over the words of formulas. Assumes nothing: these are definitions.
-use Rattle.std.specs.Prelude.{◌≡◌, List, [], ℕ, ◌≤◌, ◌<◌, length}
+use Rattle.std.specs.Prelude.{Err, ◌≡◌, List, [], ℕ, ◌≤◌, ◌<◌, length}
 use Rattle.logic.specs.Formula.{Formula}
 use Rattle.logic.specs.Answer as answer
 use Rattle.logic.specs.Sequent.{Question, to_one_sided}
@@ -17,12 +17,28 @@ use Rattle.step.specs.Taking.{sequent}
 use Rattle.ask.specs.Asking.{Askable}
 use Rattle.question.specs.declared.Places.{Places}
 use Rattle.short_trees.specs.Promise.{Form, answered, output_after}
-use Rattle.short_trees.specs.declared.Answer.{Answer}
-use Rattle.short_trees.specs.declared.Answer.TheVariants.{Refused}
+use Rattle.short_trees.specs.Promise.{Answer}
+use Rattle.short_trees.specs.declared.Failure.{Failure}
+use Rattle.short_trees.specs.declared.Failure.TheVariants.{Mismatch, Refused}
+use Rattle.formula.specs.declared.Refusal.TheVariants.{HeldFull, TooMany}
+use Rattle.grow.specs.declared.Stop as grow
+use Rattle.grow.specs.declared.Stop.TheVariants as grow_stop
+use Rattle.shrink.specs.declared.Stop as shrink
+use Rattle.shrink.specs.declared.Stop.TheVariants as shrink_stop
+
+-- why a walk stopped, as the calls answer it
+abbrev pub grow_failed : grow.Stop → Failure
+grow_failed grow_stop.Full = Refused HeldFull
+grow_failed grow_stop.Mismatch = Mismatch
+grow_failed grow_stop.TooMany = Refused TooMany
+
+abbrev pub shrink_failed : shrink.Stop → Failure
+shrink_failed shrink_stop.Full = Refused HeldFull
+shrink_failed shrink_stop.Mismatch = Mismatch
 
 -- refused, and what was entered since the first n formulas is taken back
 pub record Unread (m : List ℕ) (n : ℕ) (why : Refusal) (r : Answer) (m' : List ℕ) : Type 0 where
-  pub answer_is : r ≡ Refused why
+  pub answer_is : r ≡ Err (Refused why)
   pub back : TakenBack m n m'
 
 module _ {A B : Type 0} (form : Form A B) where
@@ -51,7 +67,7 @@ module _ {A B : Type 0} (form : Form A B) where
 
   -- refused with nothing changed
   pub record Back (k : answer.Refusal) (m out : List ℕ) (r : Answer) (m' out' : List ℕ) : Type 0 where
-    pub answer_is : r ≡ Refused (coded k)
+    pub answer_is : r ≡ Err (Refused (coded k))
     pub memory_is : m' ≡ m
     pub output_is : out' ≡ out
 

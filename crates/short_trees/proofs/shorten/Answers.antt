@@ -1,3 +1,4 @@
+use Rattle.std.proofs.lemmas.Result.{err_from_is_err_and}
 use mathlib.Core.Path.{sym, ◌∙◌}
 use native.Mathlib.Omega.{arith}
 use Rattle.held.proofs.RowSteps.{told, untold}
@@ -12,14 +13,16 @@ returns-then-not-well_formed c = memory_out shortening (call_of c.args.question.
 pub slice_bounds-shorten_in-end : goal.slice_bounds-shorten_in-end
 slice_bounds-shorten_in-end c = omega (arith, wf_length _ (told c.well_formed-2.result _ c.well_formed-2.ensures c.if-not-well_formed.false))
 
-pub slice_bounds-shorten_in-end-in-Whole : goal.slice_bounds-shorten_in-end-in-Whole
-slice_bounds-shorten_in-end-in-Whole c = sym (told c.well_formed-2.result _ c.well_formed-2.ensures c.if-not-well_formed.false).formulas.sized
+pub slice_bounds-shorten_in-end-2 : goal.slice_bounds-shorten_in-end-2
+slice_bounds-shorten_in-end-2 c = sym (told c.well_formed-2.result _ c.well_formed-2.ensures c.if-not-well_formed.false).formulas.sized
 
 pub shorten_in-requires : goal.shorten_in-requires
-shorten_in-requires c = call_enterable shortening (call_of c.args.question.now c.args.full.now c.args.mem.now c.args.out.now) (told c.well_formed-2.result _ c.well_formed-2.ensures c.if-not-well_formed.false) (record { byte = λ k. (c.type_inv.question k).fits }) (sym c.in-Whole.is ∙ c.read_question.ensures) (record { byte = λ k. (c.type_inv.full k).fits })
+shorten_in-requires c = call_enterable shortening (call_of c.args.question.now c.args.full.now c.args.mem.now c.args.out.now) (told c.well_formed-2.result _ c.well_formed-2.ensures c.if-not-well_formed.false) (record { byte = λ k. (c.type_inv.question k).fits }) (sym c.in_ok-places.was ∙ c.read_question.ensures) (record { byte = λ k. (c.type_inv.full k).fits })
 
-pub returns-in-Refused : goal.returns-in-Refused
-returns-in-Refused c = question_out shortening (call_of c.args.question.now c.args.full.now c.args.mem.now c.args.out.now) (told c.well_formed-2.result _ c.well_formed-2.ensures c.if-not-well_formed.false) (sym c.in-Refused.is ∙ c.read_question.ensures)
+pub returns-in_err-places : goal.returns-in_err-places
+returns-in_err-places c =
+    let p = err_from_is_err_and c.from_residual.result c.from_residual.ensures.1 in
+    rw (p.1, p.2) (question_out shortening (call_of c.args.question.now c.args.full.now c.args.mem.now c.args.out.now) (told c.well_formed-2.result _ c.well_formed-2.ensures c.if-not-well_formed.false) (sym c.in_err-places.was ∙ c.read_question.ensures))
 
-pub returns-in-Whole : goal.returns-in-Whole
-returns-in-Whole c = entered_out shortening (call_of c.args.question.now c.args.full.now c.args.mem.now c.args.out.now) (told c.well_formed-2.result _ c.well_formed-2.ensures c.if-not-well_formed.false) (record { byte = λ k. (c.type_inv.question k).fits }) (sym c.in-Whole.is ∙ c.read_question.ensures) c.shorten_in.ensures
+pub returns : goal.returns
+returns c = entered_out shortening (call_of c.args.question.now c.args.full.now c.args.mem.now c.args.out.now) (told c.well_formed-2.result _ c.well_formed-2.ensures c.if-not-well_formed.false) (record { byte = λ k. (c.type_inv.question k).fits }) (sym c.in_ok-places.was ∙ c.read_question.ensures) c.shorten_in.ensures

@@ -4,17 +4,17 @@ use Rattle.short_trees.specs.Promise.{shortening}
 use Rattle.short_trees.specs.AskedLaws.{asked_over, asked_back, asked_unread, asked_readable, asked_taken, tree_whole}
 use Rattle.short_trees.proofs.shorten_in.Goals as goal
 
-pub returns-then-asked : goal.returns-then-asked
-returns-then-asked c = asked_over shortening c.requires c.args.out.now c.enter_question-asked.result _ c.enter_question-asked.ensures c.if-asked.true
+pub returns-in_default : goal.returns-in_default
+returns-in_default c = asked_over shortening c.requires c.args.out.now c.enter_question.result _ c.enter_question.ensures c.in_default.is
 
 pub unread-requires : goal.unread-requires
-unread-requires c = asked_back shortening c.requires c.args.out.now c.enter_question-asked.result _ c.enter_question-asked.ensures c.if-asked.false refl
+unread-requires c = asked_back shortening c.requires c.args.out.now c.enter_question.result _ c.enter_question.ensures c.in-Some.is refl
 
 pub shorten_read-requires : goal.shorten_read-requires
-shorten_read-requires c = asked_readable shortening c.requires c.args.out.now c.enter_question-asked.result _ c.enter_question-asked.ensures c.if-asked.false (tree_whole c.requires.bytes c.read_tree.ensures c.in-Whole.is)
+shorten_read-requires c = asked_readable shortening c.requires c.args.out.now c.enter_question.result _ c.enter_question.ensures c.in-Some.is (tree_whole c.requires.bytes c.read_tree.ensures c.in-Ok.is)
 
-pub returns-in-Refused : goal.returns-in-Refused
-returns-in-Refused c = asked_unread shortening c.requires c.args.out.now c.enter_question-asked.result _ c.enter_question-asked.ensures c.if-asked.false (tree_refused _ _ c.read_tree.ensures c.in-Refused.is) refl c.unread.ensures
+pub returns-in-Err : goal.returns-in-Err
+returns-in-Err c = asked_unread shortening c.requires c.args.out.now c.enter_question.result _ c.enter_question.ensures c.in-Some.is (tree_refused _ _ c.read_tree.ensures c.in-Err.is) refl c.unread.ensures
 
-pub returns-in-Whole : goal.returns-in-Whole
-returns-in-Whole c = asked_taken shortening c.requires c.args.out.now c.enter_question-asked.result _ c.enter_question-asked.ensures c.if-asked.false (tree_whole c.requires.bytes c.read_tree.ensures c.in-Whole.is) c.shorten_read.ensures
+pub returns-in-Ok : goal.returns-in-Ok
+returns-in-Ok c = asked_taken shortening c.requires c.args.out.now c.enter_question.result _ c.enter_question.ensures c.in-Some.is (tree_whole c.requires.bytes c.read_tree.ensures c.in-Ok.is) c.shorten_read.ensures
