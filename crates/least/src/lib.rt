@@ -9,12 +9,9 @@ ghost use Rattle.least.specs.Finding.{Follows, FitsAt, Placing, PlaceFound, Node
 use expand::steps::{first_premise, premises, second_premise};
 use shown::is_shown;
 use split::least_tensor;
-use step::{TENSOR_INTRO, is_crowded, may_take, node_word};
+use step::{DERELICTION, TENSOR_INTRO, is_crowded, may_take, node_word};
 use tree::{Node, after_tree};
 use zones::Zones;
-
-// The last rule by number that has a short form.
-const LAST_RULE: u8 = 14;
 
 // Whether the tree's premises, which stand at `at`, conclude what the step at place i makes, by a rule other than TensorIntro.
 fn follows(mem: &[u16], z: Zones, rule: usize, i: usize, s: &[u8], at: usize) -> bool
@@ -69,10 +66,11 @@ pub fn least_step(mem: &[u16], z: Zones, s: &[u8], node: Node) -> Option<(usize,
     requires { Sound mem.now z × NodeInside (length s.now) node }
     ensures { LeastFor mem.now z s.now node result }
 {
-    if LAST_RULE < node.rule {
+    let rule = usize::from(node.rule);
+    // The last rule by number that has a short form.
+    if rule > DERELICTION {
         return None;
     }
-    let rule = usize::from(node.rule);
     if node.premises != premises(node_word(rule, 0, 0)) {
         return None;
     }
