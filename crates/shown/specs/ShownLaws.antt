@@ -78,22 +78,22 @@ spell_first_nth (f ∷ fs) (suc i) low passed here =
 -- ---- the items
 
 module _ {m items : List ℕ} (z : Listed m items) where
-  told_length : length (map (told m) items) ≡ length items
-  told_length = length-map items (told m)
+  named_length : length (map (told m) items) ≡ length items
+  named_length = length-map items (told m)
 
   pub item_low : (k : ℕ) → k < length items → get_or items k 0 < count m
   item_low k h = z.below.below k h
 
-  told_at : (k : ℕ) → k < length items → drop k (map (told m) items) ≡ told m (get_or items k 0) ∷ drop (suc k) (map (told m) items)
-  told_at k h =
-      drop-cons (map (told m) items) k (told m 0) (omega (arith, told_length))
+  named_at : (k : ℕ) → k < length items → drop k (map (told m) items) ≡ told m (get_or items k 0) ∷ drop (suc k) (map (told m) items)
+  named_at k h =
+      drop-cons (map (told m) items) k (told m 0) (omega (arith, named_length))
       ∙ ap (λ f. f ∷ drop (suc k) (map (told m) items)) (get_or-map (told m) items k 0)
 
-  told_getD : (k : ℕ) → k < length items → get_or (map (told m) items) k One ≡ told m (get_or items k 0)
-  told_getD k h = ap (λ fs. get_or fs 0 One) (sym (drop-cons (map (told m) items) k One (omega (arith, told_length))) ∙ told_at k h)
+  pub named_getD : (k : ℕ) → k < length items → get_or (map (told m) items) k One ≡ told m (get_or items k 0)
+  named_getD k h = ap (λ fs. get_or fs 0 One) (sym (drop-cons (map (told m) items) k One (omega (arith, named_length))) ∙ named_at k h)
 
-  told_end : drop (length items) (map (told m) items) ≡ []
-  told_end = rw told_length at (drop-length (map (told m) items))
+  named_end : drop (length items) (map (told m) items) ≡ []
+  named_end = rw named_length at (drop-length (map (told m) items))
 
 -- ---- zones compared in order
 
@@ -149,7 +149,7 @@ module _ {m items : List ℕ} {spelled : Option ℕ} {s : List ℕ} {start end :
     next_item : k < length items → (gs : List Formula)
         → same_zone (items_from m items spelled k) gs ≡ same_zone (read_as (how_of k spelled) (told m (get_or items k 0)) ∷ items_from m items spelled (suc k)) gs
     unfolding read_from
-    next_item h gs = rw (told_at z k h) refl
+    next_item h gs = rw (named_at z k h) refl
 
     -- no formula is left for it
     pub showing_short : k < length items → end ≤ p → ZoneShown m items spelled s (record { start = start; end = end }) false
@@ -204,7 +204,7 @@ module _ {m items : List ℕ} {spelled : Option ℕ} {s : List ℕ} {start end :
       right = λ fs holds.
           let l = t.left fs holds in
           let e : k ≡ length items = omega (arith, t.few) in
-          let none : drop k (map (told m) items) ≡ [] = rw e (told_end z) in
+          let none : drop k (map (told m) items) ≡ [] = rw e (named_end z) in
           over l.rest l.holds ∙ ap (λ gs. same_zone (read_from k spelled gs) l.rest) (sym none) ∙ sym l.so;
     }
 
@@ -223,14 +223,14 @@ module _ {m : List ℕ} {z : Zones} (sound : Sound m z) where
   -- the first decomposable formula is the one at the place found
   first_spelled : {i : ℕ} → FirstAt m z i → spell_first (meant (told m) z).linear ≡ spell_nth i (map (told m) (linears z))
   first_spelled {i} f =
-      let n = told_length linear_listed in
+      let n = named_length linear_listed in
       let long = linears_length sound.fits in
       spell_first_nth (meant (told m) z).linear i (omega (arith, f.low))
       (λ k h. ap decomposable (named_item k (omega (arith, f.low))) ∙ f.passed k h)
       (λ h. ap decomposable (named_item i (omega arith)) ∙ f.here (omega arith))
     where
       named_item : (k : ℕ) → k < z.linear_len → get_or (map (told m) (linears z)) k One ≡ told m (get_or z.linear k 0)
-      named_item k h = told_getD linear_listed k (omega (arith, linears_length sound.fits)) ∙ ap (told m) (get_or-take z.linear_len z.linear k 0 h)
+      named_item k h = named_getD linear_listed k (omega (arith, linears_length sound.fits)) ∙ ap (told m) (get_or-take z.linear_len z.linear k 0 h)
 
   module _ {s : List ℕ} {place i : ℕ} {n : Node} {linear : Bool} (found : NodeFound s place n) (first : FirstAt m z i)
       (shown : ZoneShown m (linears z) (Some i) s n.linear linear) where
