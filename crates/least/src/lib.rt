@@ -13,6 +13,8 @@ use step::{DERELICTION, TENSOR_INTRO, is_crowded, may_take, node_word};
 use tree::{Node, after_tree};
 use zones::Zones;
 
+// A memory and zones of its formulas are passed as two, as expand takes them.
+
 // Whether the tree's premises, which stand at `at`, conclude what the step at place i makes, by a rule other than TensorIntro.
 fn follows(mem: &[u16], z: Zones, rule: usize, i: usize, s: &[u8], at: usize) -> bool
     requires { Taken mem.now z rule i 0 × (at ≤ length s.now) }

@@ -14,6 +14,8 @@ use held::words::field;
 use tree::{Span, node_at};
 use zones::Zones;
 
+// A memory and zones of its formulas are passed as two, as expand takes them.
+
 // What is known at the tags: the comparison, or that one part or two are still to be compared.
 #[derive(Clone, Copy)]
 pub enum Tops {

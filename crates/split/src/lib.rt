@@ -14,6 +14,8 @@ use step::TENSOR;
 use tree::{Span, after_tree, next_formula, node_at};
 use zones::Zones;
 
+// A memory and zones of its formulas are passed as two, as expand takes them.
+
 // The formulas of a zone but for the last, by number: how many, and the place of the last.
 #[derive(Clone, Copy)]
 pub struct Labels {
