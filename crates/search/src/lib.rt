@@ -10,6 +10,7 @@ ghost use Rattle.search.specs.Asked.{fresh, Asked, Proves};
 
 use counters::Counters;
 use formula::Refusal;
+use ring::Spot;
 use zones::Zones;
 
 // What a search answers: a tree, as the words of its nodes, up to the next free word of the work slice; none; or a refusal.
@@ -55,8 +56,11 @@ impl Prover {
         requires { Asked self z mem.old work.old }
         ensures { Proves self z mem.old work.old result mem.new work.new }
     {
-        let left = self.limit + 1;
-        let c = Counters::zero();
-        self.visit(z, left, 0, 0, c, mem, work)
+        let spot = Spot {
+            left: self.limit + 1,
+            depth: 0,
+            at: 0,
+        };
+        self.visit(z, spot, Counters::zero(), mem, work)
     }
 }

@@ -1,5 +1,4 @@
-// The ring of search.rs: visit, decomposition, focusing and the unrestricted rules call one another. `left` is how many depths are left, `depth` the depth of the visit, `at` the next free
-// word of the work slice. A node's word comes first, its premises' words after it, left to right.
+// The ring of search.rs: visit, decomposition, focusing and the unrestricted rules call one another. A node's word comes first, its premises' words after it, left to right.
 ghost use Rattle.std.specs.Prelude.{◌≡◌, ◌+◌, ◌<◌, length};
 ghost use Rattle.logic.specs.Formula.{Tensor, Plus};
 ghost use Rattle.memory.specs.Meaning.{Wf, StandsIn, failed};
@@ -16,6 +15,14 @@ use formula::Refusal;
 use memory::failed::{known, record_failure};
 use memory::shape::spell;
 use zones::Zones;
+
+// Where a visit stands: how many depths are left, its depth, and the next free word of the work slice.
+#[derive(Clone, Copy)]
+pub struct Spot {
+    pub left: usize,
+    pub depth: usize,
+    pub at: usize,
+}
 
 // A node without premises.
 fn leaf(x: u64, at: usize, c: Counters, work: &mut [u64]) -> Outcome
@@ -48,28 +55,35 @@ impl Prover {
     pub fn visit(
         self,
         z: Zones,
-        left: usize,
-        depth: usize,
-        at: usize,
+        spot: Spot,
         c: Counters,
         mem: &mut [u16],
         work: &mut [u64],
     ) -> Outcome
-        requires { Ready 0 z (depth + left) at self c mem.old work.old }
-        ensures { Visits self left depth z at c mem.old work.old result mem.new work.new }
+        requires { Ready 0 z (spot.depth + spot.left) spot.at self c mem.old work.old }
+        ensures { Visits self spot.left spot.depth z spot.at c mem.old work.old result mem.new work.new }
     {
         if self.budget <= c.explored {
             return Outcome::Refused(Refusal::BudgetSpent, c);
         }
         let c1 = c.visit();
-        let c2 = c1.reach(depth);
-        if left == 0 {
+        let c2 = c1.reach(spot.depth);
+        if spot.left == 0 {
             return Outcome::Nothing(c2);
         }
         if self.seen(z, mem) {
             return Outcome::Nothing(c2.hit());
         }
-        let a = self.prove_async(z, left - 1, depth, at, c2, mem, work);
+        let a = self.prove_async(
+            z,
+            Spot {
+                left: spot.left - 1,
+                ..spot
+            },
+            c2,
+            mem,
+            work,
+        );
         let Outcome::Nothing(c3) = a else {
             return a;
         };
@@ -85,15 +99,13 @@ impl Prover {
     fn prove_async(
         self,
         z: Zones,
-        left: usize,
-        depth: usize,
-        at: usize,
+        spot: Spot,
         c: Counters,
         mem: &mut [u16],
         work: &mut [u64],
     ) -> Outcome
-        requires { Ready 1 z (depth + (left + 1)) at self c mem.old work.old }
-        ensures { Decomposes self left depth z at c mem.old work.old result mem.new work.new }
+        requires { Ready 1 z (spot.depth + (spot.left + 1)) spot.at self c mem.old work.old }
+        ensures { Decomposes self spot.left spot.depth z spot.at c mem.old work.old result mem.new work.new }
     {
         let p = first_plan(mem, z);
         match p {
@@ -103,33 +115,23 @@ impl Prover {
                     return Outcome::Refused(Refusal::TooMany, c);
                 }
                 let y = z.without(i).pushed(a).pushed(b);
-                self.under(y, word(5, i, 0), left, depth, at, c, mem, work)
+                self.under(y, word(5, i, 0), spot, c, mem, work)
             }
             Plan::Bottom(i) => {
                 let y = z.without(i);
-                self.under(y, word(3, i, 0), left, depth, at, c, mem, work)
+                self.under(y, word(3, i, 0), spot, c, mem, work)
             }
-            Plan::Top(i) => leaf(word(6, i, 0), at, c, work),
+            Plan::Top(i) => leaf(word(6, i, 0), spot.at, c, work),
             Plan::With(i, a, b) => {
                 let y = z.without(i);
-                self.both(
-                    y.pushed(a),
-                    y.pushed(b),
-                    word(7, i, 0),
-                    left,
-                    depth,
-                    at,
-                    c,
-                    mem,
-                    work,
-                )
+                self.both(y.pushed(a), y.pushed(b), word(7, i, 0), spot, c, mem, work)
             }
             Plan::WhyNot(i, a) => {
                 let y = z.without(i).pushed_unrestricted(a);
-                self.under(y, word(11, i, 0), left, depth, at, c, mem, work)
+                self.under(y, word(11, i, 0), spot, c, mem, work)
             }
-            Plan::Lolli(i, x) => self.spelled(z, i, x, left, depth, at, c, mem, work),
-            Plan::Rest => self.prove_sync(z, left, depth, at, c, mem, work),
+            Plan::Lolli(i, x) => self.spelled(z, i, x, spot, c, mem, work),
+            Plan::Rest => self.prove_sync(z, spot, c, mem, work),
         }
     }
 
@@ -140,20 +142,27 @@ impl Prover {
         z: Zones,
         i: usize,
         x: u16,
-        left: usize,
-        depth: usize,
-        at: usize,
+        spot: Spot,
         c: Counters,
         mem: &mut [u16],
         work: &mut [u64],
     ) -> Outcome
-        requires { (Ready 1 z (depth + (left + 1)) at self c mem.old work.old) × FirstLolli mem.old z i x }
-        ensures { Decomposes self left depth z at c mem.old work.old result mem.new work.new }
+        requires { (Ready 1 z (spot.depth + (spot.left + 1)) spot.at self c mem.old work.old) × FirstLolli mem.old z i x }
+        ensures { Decomposes self spot.left spot.depth z spot.at c mem.old work.old result mem.new work.new }
     {
         let Some(y) = spell(mem, x) else {
             return Outcome::Refused(Refusal::HeldFull, c);
         };
-        self.visit(z.replaced(i, y), left + 1, depth, at, c, mem, work)
+        self.visit(
+            z.replaced(i, y),
+            Spot {
+                left: spot.left + 1,
+                ..spot
+            },
+            c,
+            mem,
+            work,
+        )
     }
 
     // search.rs: `prove_sync`. The pass over negated atoms finds nothing that the positives' pass did not.
@@ -161,21 +170,19 @@ impl Prover {
     fn prove_sync(
         self,
         z: Zones,
-        left: usize,
-        depth: usize,
-        at: usize,
+        spot: Spot,
         c: Counters,
         mem: &mut [u16],
         work: &mut [u64],
     ) -> Outcome
-        requires { Ready 1 z (depth + (left + 1)) at self c mem.old work.old }
-        ensures { Syncs self left depth z at c mem.old work.old result mem.new work.new }
+        requires { Ready 1 z (spot.depth + (spot.left + 1)) spot.at self c mem.old work.old }
+        ensures { Syncs self spot.left spot.depth z spot.at c mem.old work.old result mem.new work.new }
     {
-        let a = self.positives(z, left, depth, at, c, mem, work);
+        let a = self.positives(z, spot, c, mem, work);
         let Outcome::Nothing(c1) = a else {
             return a;
         };
-        self.exponentials(z, left, depth, at, c1, mem, work)
+        self.exponentials(z, spot, c1, mem, work)
     }
 
     // `prove_sync`'s loop over the positive formulas.
@@ -183,20 +190,18 @@ impl Prover {
     fn positives(
         self,
         z: Zones,
-        left: usize,
-        depth: usize,
-        at: usize,
+        spot: Spot,
         c: Counters,
         mem: &mut [u16],
         work: &mut [u64],
     ) -> Outcome
-        requires { Ready 1 z (depth + (left + 1)) at self c mem.old work.old }
-        ensures { Chooses self left depth z at c mem.old work.old result mem.new work.new }
+        requires { Ready 1 z (spot.depth + (spot.left + 1)) spot.at self c mem.old work.old }
+        ensures { Chooses self spot.left spot.depth z spot.at c mem.old work.old result mem.new work.new }
     {
         let n = z.linear_len;
         let mut c1 = c;
         for i in 0..n {
-            let a = self.prove_focused(z, i, left, depth, at, c1, mem, work);
+            let a = self.prove_focused(z, i, spot, c1, mem, work);
             if let Outcome::Nothing(c2) = a {
                 c1 = c2;
             } else {
@@ -212,25 +217,21 @@ impl Prover {
         self,
         z: Zones,
         i: usize,
-        left: usize,
-        depth: usize,
-        at: usize,
+        spot: Spot,
         c: Counters,
         mem: &mut [u16],
         work: &mut [u64],
     ) -> Outcome
-        requires { (Ready 1 z (depth + (left + 1)) at self c mem.old work.old) × (i < z.linear_len) }
-        ensures { Focuses self left depth z at c mem.old work.old result mem.new work.new i }
+        requires { (Ready 1 z (spot.depth + (spot.left + 1)) spot.at self c mem.old work.old) × (i < z.linear_len) }
+        ensures { Focuses self spot.left spot.depth z spot.at c mem.old work.old result mem.new work.new i }
     {
         let f = focus_on(mem, z, i);
         match f {
-            Focus::Axiom => leaf(0, at, c, work),
-            Focus::One => leaf(2, at, c, work),
-            Focus::Tensor(a, b) => self.masks(z, i, a, b, left, depth, at, c, mem, work),
-            Focus::Plus(a, b) => self.plus(z, i, a, b, left, depth, at, c, mem, work),
-            Focus::OfCourse(a) => {
-                self.under(z.only(a), word(10, i, 0), left, depth, at, c, mem, work)
-            }
+            Focus::Axiom => leaf(0, spot.at, c, work),
+            Focus::One => leaf(2, spot.at, c, work),
+            Focus::Tensor(a, b) => self.masks(z, i, a, b, spot, c, mem, work),
+            Focus::Plus(a, b) => self.plus(z, i, a, b, spot, c, mem, work),
+            Focus::OfCourse(a) => { self.under(z.only(a), word(10, i, 0), spot, c, mem, work) }
             Focus::Nothing => Outcome::Nothing(c),
         }
     }
@@ -243,15 +244,13 @@ impl Prover {
         i: usize,
         a: u16,
         b: u16,
-        left: usize,
-        depth: usize,
-        at: usize,
+        spot: Spot,
         c: Counters,
         mem: &mut [u16],
         work: &mut [u64],
     ) -> Outcome
-        requires { (Ready 1 z (depth + (left + 1)) at self c mem.old work.old) × Two Tensor mem.old z i a b }
-        ensures { Splits self left depth z at c mem.old work.old result mem.new work.new i a b }
+        requires { (Ready 1 z (spot.depth + (spot.left + 1)) spot.at self c mem.old work.old) × Two Tensor mem.old z i a b }
+        ensures { Splits self spot.left spot.depth z spot.at c mem.old work.old result mem.new work.new i a b }
     {
         let n = masks_over(z.linear_len - 1);
         let mut c1 = c;
@@ -260,9 +259,7 @@ impl Prover {
                 z.left_part(i, m, a),
                 z.right_part(i, m, b),
                 word(4, i, m),
-                left,
-                depth,
-                at,
+                spot,
                 c1,
                 mem,
                 work,
@@ -284,39 +281,19 @@ impl Prover {
         i: usize,
         a: u16,
         b: u16,
-        left: usize,
-        depth: usize,
-        at: usize,
+        spot: Spot,
         c: Counters,
         mem: &mut [u16],
         work: &mut [u64],
     ) -> Outcome
-        requires { (Ready 1 z (depth + (left + 1)) at self c mem.old work.old) × Two Plus mem.old z i a b }
-        ensures { Pluses self left depth z at c mem.old work.old result mem.new work.new i a b }
+        requires { (Ready 1 z (spot.depth + (spot.left + 1)) spot.at self c mem.old work.old) × Two Plus mem.old z i a b }
+        ensures { Pluses self spot.left spot.depth z spot.at c mem.old work.old result mem.new work.new i a b }
     {
-        let r = self.under(
-            z.replaced(i, a),
-            word(8, i, 0),
-            left,
-            depth,
-            at,
-            c,
-            mem,
-            work,
-        );
+        let r = self.under(z.replaced(i, a), word(8, i, 0), spot, c, mem, work);
         let Outcome::Nothing(c1) = r else {
             return r;
         };
-        self.under(
-            z.replaced(i, b),
-            word(9, i, 0),
-            left,
-            depth,
-            at,
-            c1,
-            mem,
-            work,
-        )
+        self.under(z.replaced(i, b), word(9, i, 0), spot, c1, mem, work)
     }
 
     // `prove_sync` at the unrestricted zone: Dereliction over the whole zone, then the other two.
@@ -324,43 +301,32 @@ impl Prover {
     fn exponentials(
         self,
         z: Zones,
-        left: usize,
-        depth: usize,
-        at: usize,
+        spot: Spot,
         c: Counters,
         mem: &mut [u16],
         work: &mut [u64],
     ) -> Outcome
-        requires { Ready 1 z (depth + (left + 1)) at self c mem.old work.old }
-        ensures { Exponentials self left depth z at c mem.old work.old result mem.new work.new }
+        requires { Ready 1 z (spot.depth + (spot.left + 1)) spot.at self c mem.old work.old }
+        ensures { Exponentials self spot.left spot.depth z spot.at c mem.old work.old result mem.new work.new }
     {
-        let a = self.unrestricted(Exponential::Dereliction, z, left, depth, at, c, mem, work);
+        let a = self.unrestricted(Exponential::Dereliction, z, spot, c, mem, work);
         let Outcome::Nothing(c1) = a else {
             return a;
         };
-        self.copies(z, left, depth, at, c1, mem, work)
+        self.copies(z, spot, c1, mem, work)
     }
 
     // Contraction over the whole zone, then Weakening.
     #[cycle(ring)]
-    fn copies(
-        self,
-        z: Zones,
-        left: usize,
-        depth: usize,
-        at: usize,
-        c: Counters,
-        mem: &mut [u16],
-        work: &mut [u64],
-    ) -> Outcome
-        requires { Ready 1 z (depth + (left + 1)) at self c mem.old work.old }
-        ensures { Copies self left depth z at c mem.old work.old result mem.new work.new }
+    fn copies(self, z: Zones, spot: Spot, c: Counters, mem: &mut [u16], work: &mut [u64]) -> Outcome
+        requires { Ready 1 z (spot.depth + (spot.left + 1)) spot.at self c mem.old work.old }
+        ensures { Copies self spot.left spot.depth z spot.at c mem.old work.old result mem.new work.new }
     {
-        let a = self.unrestricted(Exponential::Contraction, z, left, depth, at, c, mem, work);
+        let a = self.unrestricted(Exponential::Contraction, z, spot, c, mem, work);
         let Outcome::Nothing(c1) = a else {
             return a;
         };
-        self.unrestricted(Exponential::Weakening, z, left, depth, at, c1, mem, work)
+        self.unrestricted(Exponential::Weakening, z, spot, c1, mem, work)
     }
 
     // search.rs: `try_dereliction`, `try_contraction`, `try_weakening`
@@ -369,20 +335,18 @@ impl Prover {
         self,
         rule: Exponential,
         z: Zones,
-        left: usize,
-        depth: usize,
-        at: usize,
+        spot: Spot,
         c: Counters,
         mem: &mut [u16],
         work: &mut [u64],
     ) -> Outcome
-        requires { Ready 1 z (depth + (left + 1)) at self c mem.old work.old }
-        ensures { Uses self left depth z at c mem.old work.old result mem.new work.new rule }
+        requires { Ready 1 z (spot.depth + (spot.left + 1)) spot.at self c mem.old work.old }
+        ensures { Uses self spot.left spot.depth z spot.at c mem.old work.old result mem.new work.new rule }
     {
         let n = z.unrestricted_len;
         let mut c1 = c;
         for i in 0..n {
-            let a = self.taken(rule, z, i, left, depth, at, c1, mem, work);
+            let a = self.taken(rule, z, i, spot, c1, mem, work);
             if let Outcome::Nothing(c2) = a {
                 c1 = c2;
             } else {
@@ -399,15 +363,13 @@ impl Prover {
         rule: Exponential,
         z: Zones,
         i: usize,
-        left: usize,
-        depth: usize,
-        at: usize,
+        spot: Spot,
         c: Counters,
         mem: &mut [u16],
         work: &mut [u64],
     ) -> Outcome
-        requires { (Ready 1 z (depth + (left + 1)) at self c mem.old work.old) × (i < z.unrestricted_len) }
-        ensures { Takes self left depth z at c mem.old work.old result mem.new work.new rule i }
+        requires { (Ready 1 z (spot.depth + (spot.left + 1)) spot.at self c mem.old work.old) × (i < z.unrestricted_len) }
+        ensures { Takes self spot.left spot.depth z spot.at c mem.old work.old result mem.new work.new rule i }
     {
         if too_long(rule, z) {
             return Outcome::Refused(Refusal::TooMany, c);
@@ -415,9 +377,7 @@ impl Prover {
         self.under(
             premise(rule, z, i),
             word(number_of(rule), i, 0),
-            left,
-            depth,
-            at,
+            spot,
             c,
             mem,
             work,
@@ -430,21 +390,29 @@ impl Prover {
         self,
         y: Zones,
         x: u64,
-        left: usize,
-        depth: usize,
-        at: usize,
+        spot: Spot,
         c: Counters,
         mem: &mut [u16],
         work: &mut [u64],
     ) -> Outcome
-        requires { Ready 1 y (depth + (left + 1)) at self c mem.old work.old }
-        ensures { Puts self left depth y at c mem.old work.old result mem.new work.new x }
+        requires { Ready 1 y (spot.depth + (spot.left + 1)) spot.at self c mem.old work.old }
+        ensures { Puts self spot.left spot.depth y spot.at c mem.old work.old result mem.new work.new x }
     {
-        let a = self.visit(y, left, depth + 1, at + 1, c, mem, work);
+        let a = self.visit(
+            y,
+            Spot {
+                depth: spot.depth + 1,
+                at: spot.at + 1,
+                ..spot
+            },
+            c,
+            mem,
+            work,
+        );
         let Outcome::Found(end, c1) = a else {
             return a;
         };
-        work[at] = x;
+        work[spot.at] = x;
         Outcome::Found(end, c1)
     }
 
@@ -455,25 +423,43 @@ impl Prover {
         y: Zones,
         u: Zones,
         x: u64,
-        left: usize,
-        depth: usize,
-        at: usize,
+        spot: Spot,
         c: Counters,
         mem: &mut [u16],
         work: &mut [u64],
     ) -> Outcome
-        requires { (Ready 1 y (depth + (left + 1)) at self c mem.old work.old) × StandsIn mem.old u }
-        ensures { PutsBoth self left depth y at c mem.old work.old result mem.new work.new x u }
+        requires { (Ready 1 y (spot.depth + (spot.left + 1)) spot.at self c mem.old work.old) × StandsIn mem.old u }
+        ensures { PutsBoth self spot.left spot.depth y spot.at c mem.old work.old result mem.new work.new x u }
     {
-        let a = self.visit(y, left, depth + 1, at + 1, c, mem, work);
+        let a = self.visit(
+            y,
+            Spot {
+                depth: spot.depth + 1,
+                at: spot.at + 1,
+                ..spot
+            },
+            c,
+            mem,
+            work,
+        );
         let Outcome::Found(middle, c1) = a else {
             return a;
         };
-        let b = self.visit(u, left, depth + 1, middle, c1, mem, work);
+        let b = self.visit(
+            u,
+            Spot {
+                depth: spot.depth + 1,
+                at: middle,
+                ..spot
+            },
+            c1,
+            mem,
+            work,
+        );
         let Outcome::Found(end, c2) = b else {
             return b;
         };
-        work[at] = x;
+        work[spot.at] = x;
         Outcome::Found(end, c2)
     }
 }

@@ -2,4 +2,4 @@ use Rattle.search.proofs.Entry.{start_proves}
 use Rattle.search.proofs.Prover.prove.Goals as goal
 
 pub returns : goal.returns
-returns c = start_proves c.requires c.zero-c.ensures c.visit.ensures
+returns c = start_proves c.requires c.zero.ensures c.visit.ensures
