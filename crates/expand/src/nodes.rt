@@ -68,18 +68,12 @@ fn node_length(
         to: next,
     };
     let n = premises(w);
-    if n == 0 {
-        return here;
-    }
-    if BODY < next {
+    if n == 0 || BODY < next {
         return here;
     }
     let p = first_premise(mem, s, w);
     let first = node_length(mem, negations, words, p, left - 1, after, next);
-    if n == 1 {
-        return first;
-    }
-    if BODY < first.to {
+    if n == 1 || BODY < first.to {
         return first;
     }
     let q = second_premise(mem, s, w);
