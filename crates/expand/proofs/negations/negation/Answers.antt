@@ -1,5 +1,5 @@
 use native.Mathlib.Omega.{arith}
-use Rattle.expand.proofs.NegationSteps.{negation_tag, leaf_next, leaf_noted, lolli_none, lolli_next, lolli_noted, left_none, left_in, right_in, mid_none_right, mid_next, mid_noted, high_next, high_noted}
+use Rattle.expand.proofs.NegationSteps.{leaf_next, leaf_noted, lolli_none, lolli_next, lolli_noted, left_none, mid_none_right, mid_next, mid_noted, high_next, high_noted}
 use Rattle.expand.proofs.negations.negation.Goals as goal
 
 pub find-requires : goal.find-requires
@@ -7,9 +7,6 @@ find-requires c = leaf_next c.requires c.field-tag.ensures c.field-a.ensures c.f
 
 pub returns-then-tag-lt6 : goal.returns-then-tag-lt6
 returns-then-tag-lt6 c = leaf_noted c.requires c.field-tag.ensures c.field-a.ensures c.field-b.ensures c.find.result c.if-tag-lt6.true c.dual.ensures c.find.ensures
-
-pub bounds-table-b : goal.bounds-table-b
-bounds-table-b c = right_in c.requires c.field-tag.ensures c.field-a.ensures c.field-b.ensures (omega arith) (omega arith)
 
 pub returns-in_err-right : goal.returns-in_err-right
 returns-in_err-right c = rw c.from_residual.ensures (lolli_none c.requires c.field-tag.ensures c.field-a.ensures c.field-b.ensures c.if-tag-eq10.true (omega (arith, c.in_err-right.ensures)))
@@ -20,14 +17,8 @@ find-requires-then-tag-eq10 c = rw c.in_ok-right.ensures.1 (lolli_next c.require
 pub returns-then-tag-eq10 : goal.returns-then-tag-eq10
 returns-then-tag-eq10 c = lolli_noted c.requires c.field-tag.ensures c.field-a.ensures c.field-b.ensures c.if-tag-eq10.true (λ e. omega (arith, c.in_ok-right.ensures)) c.find-then-tag-eq10.result (rw c.in_ok-right.ensures.1 at c.find-then-tag-eq10.ensures)
 
-pub bounds-table-a : goal.bounds-table-a
-bounds-table-a c = left_in c.requires c.field-tag.ensures c.field-a.ensures c.field-b.ensures c.if-tag-lt6.false
-
 pub returns-in_err-left : goal.returns-in_err-left
 returns-in_err-left c = rw c.from_residual-in_err-left.ensures (left_none c.requires c.field-tag.ensures c.field-a.ensures c.field-b.ensures c.if-tag-lt6.false c.if-tag-eq10.false (omega (arith, c.in_err-left.ensures)))
-
-pub dual-requires-then-tag-gt10 : goal.dual-requires-then-tag-gt10
-dual-requires-then-tag-gt10 c = negation_tag c.requires c.field-tag.ensures c.field-a.ensures c.field-b.ensures
 
 pub find-requires-then-tag-gt10 : goal.find-requires-then-tag-gt10
 find-requires-then-tag-gt10 c = rw c.in_ok-left.ensures.1 (high_next c.requires c.field-tag.ensures c.field-a.ensures c.field-b.ensures c.if-tag-gt10.true (λ e. omega (arith, c.in_ok-left.ensures)) c.dual-then-tag-gt10.ensures)
@@ -35,14 +26,8 @@ find-requires-then-tag-gt10 c = rw c.in_ok-left.ensures.1 (high_next c.requires 
 pub returns-then-tag-gt10 : goal.returns-then-tag-gt10
 returns-then-tag-gt10 c = high_noted c.requires c.field-tag.ensures c.field-a.ensures c.field-b.ensures c.if-tag-gt10.true (λ e. omega (arith, c.in_ok-left.ensures)) c.dual-then-tag-gt10.ensures c.find-then-tag-gt10.result (rw c.in_ok-left.ensures.1 at c.find-then-tag-gt10.ensures)
 
-pub bounds-table-b-2 : goal.bounds-table-b-2
-bounds-table-b-2 c = right_in c.requires c.field-tag.ensures c.field-a.ensures c.field-b.ensures c.if-tag-lt6.false (omega arith)
-
 pub returns-in_err-right-2 : goal.returns-in_err-right-2
 returns-in_err-right-2 c = rw c.from_residual-in_err-right-2.ensures (mid_none_right c.requires c.field-tag.ensures c.field-a.ensures c.field-b.ensures c.if-tag-lt6.false (omega arith) (omega (arith, c.in_err-right-2.ensures)))
-
-pub dual-requires-2 : goal.dual-requires-2
-dual-requires-2 c = negation_tag c.requires c.field-tag.ensures c.field-a.ensures c.field-b.ensures
 
 pub find-requires-2 : goal.find-requires-2
 find-requires-2 c = rw (c.in_ok-left.ensures.1, c.in_ok-right-2.ensures.1) (mid_next c.requires c.field-tag.ensures c.field-a.ensures c.field-b.ensures c.if-tag-lt6.false (omega arith) (λ e. omega (arith, c.in_ok-left.ensures)) (λ e. omega (arith, c.in_ok-right-2.ensures)) c.dual-2.ensures)

@@ -1,7 +1,6 @@
 use mathlib.Core.Path.{refl}
 use native.Mathlib.Omega.{arith}
-use Rattle.expand.proofs.ByteSteps.{wrote_length}
-use Rattle.expand.proofs.TreeSteps.{level_left, word_in, word_rule, carries_spells, first_step, second_step, writing_head, first_writing, second_writing, written_leaf, written_one, written_two, written_length}
+use Rattle.expand.proofs.TreeSteps.{level_left, word_in, word_rule, carries_spells, first_step, second_step, writing_head, first_writing, second_writing, written_leaf, written_one, written_two}
 use Rattle.expand.proofs.nodes.+node_bytes.Goals as goal
 
 pub offset_bounds-words-at : goal.offset_bounds-words-at
@@ -22,9 +21,6 @@ head_bytes-next-requires t c = writing_head c.requires c.spelled-s.ensures
 pub premises-n-requires : goal.premises-n-requires
 premises-n-requires t c = word_rule c.requires.carries
 
-pub shape_of-out-then-n-eq0 : goal.shape_of-out-then-n-eq0
-shape_of-out-then-n-eq0 t c = wrote_length c.head_bytes-next.ensures
-
 pub returns-then-n-eq0 : goal.returns-then-n-eq0
 returns-then-n-eq0 t c = written_leaf c.requires c.spelled-s.ensures c.premises-n.ensures c.head_bytes-next.ensures c.if-n-eq0.true refl refl
 
@@ -37,9 +33,6 @@ overflow_sub-left t c = level_left c.requires.carries
 pub node_bytes-first-requires : goal.node_bytes-first-requires
 node_bytes-first-requires t c = (omega (arith, c.decreases, level_left c.requires.carries), first_writing c.requires c.spelled-s.ensures c.premises-n.ensures c.head_bytes-next.ensures c.if-n-eq0.false c.first_premise-p.ensures)
 
-pub shape_of-out-then-n-eq1 : goal.shape_of-out-then-n-eq1
-shape_of-out-then-n-eq1 t c = written_length c.requires.carries (written_one c.requires c.spelled-s.ensures c.premises-n.ensures c.head_bytes-next.ensures c.if-n-eq0.false c.first_premise-p.ensures c.node_bytes-first.ensures c.if-n-eq1.true)
-
 pub returns-then-n-eq1 : goal.returns-then-n-eq1
 returns-then-n-eq1 t c = written_one c.requires c.spelled-s.ensures c.premises-n.ensures c.head_bytes-next.ensures c.if-n-eq0.false c.first_premise-p.ensures c.node_bytes-first.ensures c.if-n-eq1.true
 
@@ -51,9 +44,6 @@ overflow_sub-left-2 t c = level_left c.requires.carries
 
 pub node_bytes-requires : goal.node_bytes-requires
 node_bytes-requires t c = (omega (arith, c.decreases, level_left c.requires.carries), second_writing c.requires c.spelled-s.ensures c.premises-n.ensures c.head_bytes-next.ensures c.if-n-eq0.false c.first_premise-p.ensures c.node_bytes-first.ensures c.if-n-eq1.false c.second_premise-q.ensures)
-
-pub shape_of-out : goal.shape_of-out
-shape_of-out t c = written_length c.requires.carries (written_two c.requires c.spelled-s.ensures c.premises-n.ensures c.head_bytes-next.ensures c.if-n-eq0.false c.first_premise-p.ensures c.node_bytes-first.ensures c.if-n-eq1.false c.second_premise-q.ensures c.node_bytes.ensures)
 
 pub returns : goal.returns
 returns t c = written_two c.requires c.spelled-s.ensures c.premises-n.ensures c.head_bytes-next.ensures c.if-n-eq0.false c.first_premise-p.ensures c.node_bytes-first.ensures c.if-n-eq1.false c.second_premise-q.ensures c.node_bytes.ensures

@@ -16,20 +16,14 @@ overflow_add-after t c = omega (arith, word_in c.requires.carries)
 pub spelled-s-requires : goal.spelled-s-requires
 spelled-s-requires t c = carries_spells c.requires.carries c.requires.table_is
 
-pub head_length-requires : goal.head_length-requires
-head_length-requires t c = c.spelled-s.ensures.sound
-
-pub overflow_add-next : goal.overflow_add-next
-overflow_add-next t c = omega (arith, c.requires.low, c.head_length.ensures.small)
-
 pub premises-n-requires : goal.premises-n-requires
 premises-n-requires t c = word_rule c.requires.carries
 
 pub returns-then-n-eq0 : goal.returns-then-n-eq0
 returns-then-n-eq0 t c =
-    elim c.then-n-eq0.branch
-    [ then-n-eq0-via-then-n-eq0 w ↦ counted_leaf _ c.spelled-s.ensures c.premises-n.ensures c.head_length.ensures w.if-n-eq0.true refl refl
-    | then-n-eq0-via-else-n-eq0+then-next-gt-BODY w ↦ counted_over _ c.spelled-s.ensures c.premises-n.ensures c.head_length.ensures w.if-next-gt-BODY.true refl
+    elim c.then-n-eq0.branch [
+      | then-n-eq0-via-then-n-eq0 w ↦ counted_leaf _ c.spelled-s.ensures c.premises-n.ensures c.head_length.ensures w.if-n-eq0.true refl refl
+      | then-n-eq0-via-else-n-eq0+then-next-gt-BODY w ↦ counted_over _ c.spelled-s.ensures c.premises-n.ensures c.head_length.ensures w.if-next-gt-BODY.true refl
     ]
 
 pub first_premise-p-requires : goal.first_premise-p-requires
@@ -43,9 +37,9 @@ node_length-first-requires t c = (omega (arith, c.decreases, level_left c.requir
 
 pub returns-then-n-eq1 : goal.returns-then-n-eq1
 returns-then-n-eq1 t c =
-    elim c.then-n-eq1.branch
-    [ then-n-eq1-via-then-n-eq1 w ↦ counted_one _ c.spelled-s.ensures c.premises-n.ensures c.head_length.ensures c.if-n-eq0.false c.first_premise-p.ensures c.node_length-first.ensures w.if-n-eq1.true
-    | then-n-eq1-via-else-n-eq1+then-first-gt-BODY w ↦ counted_first_over _ c.spelled-s.ensures c.premises-n.ensures c.head_length.ensures c.if-n-eq0.false c.first_premise-p.ensures c.node_length-first.ensures w.if-first-gt-BODY.true
+    elim c.then-n-eq1.branch [
+      | then-n-eq1-via-then-n-eq1 w ↦ counted_one _ c.spelled-s.ensures c.premises-n.ensures c.head_length.ensures c.if-n-eq0.false c.first_premise-p.ensures c.node_length-first.ensures w.if-n-eq1.true
+      | then-n-eq1-via-else-n-eq1+then-first-gt-BODY w ↦ counted_first_over _ c.spelled-s.ensures c.premises-n.ensures c.head_length.ensures c.if-n-eq0.false c.first_premise-p.ensures c.node_length-first.ensures w.if-first-gt-BODY.true
     ]
 
 pub second_premise-q-requires : goal.second_premise-q-requires

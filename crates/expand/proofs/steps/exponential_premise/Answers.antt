@@ -3,9 +3,6 @@ use borrow.Author.Rules.{rules}
 use Rattle.expand.proofs.PremiseSteps.{copied_in, copied_room, contraction_room, weakening_means, contraction_means, dereliction_means}
 use Rattle.expand.proofs.steps.exponential_premise.Goals as goal
 
-pub offset_bounds-z-i : goal.offset_bounds-z-i
-offset_bounds-z-i c = omega (arith, c.requires.0.sound.fits.few, copied_in c.requires.0 c.place-i.ensures c.requires.1)
-
 pub bounds-z-i : goal.bounds-z-i
 bounds-z-i c = omega (arith, c.requires.0.sound.fits.few, copied_in c.requires.0 c.place-i.ensures c.requires.1)
 

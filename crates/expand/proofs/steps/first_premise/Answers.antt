@@ -4,32 +4,14 @@ use Rattle.expand.proofs.SpellSteps.{linear_fits}
 use Rattle.expand.proofs.PremiseSteps.{linear_in, moved_room, par_room, bottom_means, tensor_means, par_means, with_means, plus_left_means, plus_right_means, of_course_means, why_not_means}
 use Rattle.expand.proofs.steps.first_premise.Goals as goal
 
-pub exponential_premise-requires : goal.exponential_premise-requires
-exponential_premise-requires c = (c.requires, c.if-rule-gt11.true)
-
-pub returns-then-rule-gt11 : goal.returns-then-rule-gt11
-returns-then-rule-gt11 c = c.exponential_premise.ensures
-
-pub offset_bounds-z-i : goal.offset_bounds-z-i
-offset_bounds-z-i c = omega (arith, c.requires.sound.fits.few, (linear_in c.requires c.place-i.ensures c.if-rule-gt11.false))
-
 pub bounds-z-i : goal.bounds-z-i
 bounds-z-i c = omega (arith, c.requires.sound.fits.few, (linear_in c.requires c.place-i.ensures c.if-rule-gt11.false))
-
-pub overflow_cast-x : goal.overflow_cast-x
-overflow_cast-x c = omega (arith, linear_fits c.requires.sound c.place-i.result (linear_in c.requires c.place-i.ensures c.if-rule-gt11.false))
 
 pub field-a-requires : goal.field-a-requires
 field-a-requires c = ((linear_fits c.requires.sound c.place-i.result (linear_in c.requires c.place-i.ensures c.if-rule-gt11.false), omega arith), c.requires.sound.wf.sized)
 
-pub overflow_cast-a : goal.overflow_cast-a
-overflow_cast-a c = omega (arith, c.field-a.ensures.fits)
-
 pub field-b-requires : goal.field-b-requires
 field-b-requires c = ((linear_fits c.requires.sound c.place-i.result (linear_in c.requires c.place-i.ensures c.if-rule-gt11.false), omega arith), c.requires.sound.wf.sized)
-
-pub overflow_cast-b : goal.overflow_cast-b
-overflow_cast-b c = omega (arith, c.field-b.ensures.fits)
 
 pub without-requires : goal.without-requires
 without-requires c = (c.requires.sound.fits, (linear_in c.requires c.place-i.ensures c.if-rule-gt11.false))

@@ -3,20 +3,11 @@ use Rattle.expand.proofs.SpellSteps.{linear_fits}
 use Rattle.expand.proofs.PremiseSteps.{second_in, moved_room, tensor_second_means, with_second_means}
 use Rattle.expand.proofs.steps.second_premise.Goals as goal
 
-pub offset_bounds-z-i : goal.offset_bounds-z-i
-offset_bounds-z-i c = omega (arith, c.requires.sound.fits.few, (second_in c.requires c.place-i.ensures))
-
 pub bounds-z-i : goal.bounds-z-i
 bounds-z-i c = omega (arith, c.requires.sound.fits.few, (second_in c.requires c.place-i.ensures))
 
-pub overflow_cast-x : goal.overflow_cast-x
-overflow_cast-x c = omega (arith, linear_fits c.requires.sound c.place-i.result (second_in c.requires c.place-i.ensures))
-
 pub field-b-requires : goal.field-b-requires
 field-b-requires c = ((linear_fits c.requires.sound c.place-i.result (second_in c.requires c.place-i.ensures), omega arith), c.requires.sound.wf.sized)
-
-pub overflow_cast-b : goal.overflow_cast-b
-overflow_cast-b c = omega (arith, c.field-b.ensures.fits)
 
 pub right_part-requires : goal.right_part-requires
 right_part-requires c = (c.requires.sound.fits, (second_in c.requires c.place-i.ensures))

@@ -3,29 +3,14 @@ use native.Mathlib.Omega.{arith}
 use Rattle.expand.proofs.SpellSteps.{linear_fits, first_in, spelled_none, spelled_plain, spellable, spelled_lolli}
 use Rattle.expand.proofs.steps.spelled.Goals as goal
 
-pub first_decomposable-i-requires : goal.first_decomposable-i-requires
-first_decomposable-i-requires c = c.requires.sound
-
 pub returns-then-i-n : goal.returns-then-i-n
 returns-then-i-n c = spelled_none c.requires c.first_decomposable-i.ensures c.if-i-n.true
-
-pub offset_bounds-z-i : goal.offset_bounds-z-i
-offset_bounds-z-i c = omega (arith, c.requires.sound.fits.few, (first_in c.first_decomposable-i.ensures c.if-i-n.false))
-
-pub bounds-z-i : goal.bounds-z-i
-bounds-z-i c = omega (arith, c.requires.sound.fits.few, (first_in c.first_decomposable-i.ensures c.if-i-n.false))
-
-pub overflow_cast-x : goal.overflow_cast-x
-overflow_cast-x c = omega (arith, linear_fits c.requires.sound c.first_decomposable-i.result (first_in c.first_decomposable-i.ensures c.if-i-n.false))
 
 pub field-requires : goal.field-requires
 field-requires c = ((linear_fits c.requires.sound c.first_decomposable-i.result (first_in c.first_decomposable-i.ensures c.if-i-n.false), omega arith), c.requires.sound.wf.sized)
 
 pub spelled_number-requires : goal.spelled_number-requires
 spelled_number-requires c = spellable c.requires c.first_decomposable-i.ensures (first_in c.first_decomposable-i.ensures c.if-i-n.false) (sym c.field.ensures.value ∙ c.if-field-eq10.true)
-
-pub replaced-requires : goal.replaced-requires
-replaced-requires c = (c.requires.sound.fits, (first_in c.first_decomposable-i.ensures c.if-i-n.false))
 
 pub returns-then-field-eq10 : goal.returns-then-field-eq10
 returns-then-field-eq10 c = spelled_lolli c.requires c.first_decomposable-i.ensures (first_in c.first_decomposable-i.ensures c.if-i-n.false) c.spelled_number.ensures c.replaced.ensures

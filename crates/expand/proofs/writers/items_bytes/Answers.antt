@@ -1,4 +1,4 @@
-use Rattle.expand.proofs.ByteSteps.{written_start, written_room, written_next, written_end, wrote_length}
+use Rattle.expand.proofs.ByteSteps.{written_start, written_room, written_next}
 use Rattle.expand.proofs.writers.items_bytes.Goals as goal
 
 pub loop-x-init : goal.loop-x-init
@@ -9,9 +9,3 @@ formula_bytes-next-requires c = written_room c.requires.good c.requires.room c.l
 
 pub loop-x-preserved : goal.loop-x-preserved
 loop-x-preserved c = written_next c.requires.good c.requires.room c.loop-x-test.true c.loop-x.invariant c.formula_bytes-next.ensures
-
-pub shape_of-out : goal.shape_of-out
-shape_of-out c = wrote_length c.loop-x.invariant
-
-pub returns : goal.returns
-returns c = written_end c.requires.good c.requires.room c.loop-x.auto.x-index-end c.loop-x-test.false c.loop-x.invariant
