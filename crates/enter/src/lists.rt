@@ -19,6 +19,7 @@ pub fn enter_formulas(
 {
     let mut p = at;
     let mut n = 0;
+    // From formula to formula: where the next begins is known when one is entered.
     while p < end {
         let (i, next) = enter_formula(mem, s, p)?;
         numbers[from + n] = i as u16;
@@ -33,6 +34,7 @@ pub fn negate_listed(mem: &mut [u16], numbers: &mut [u16], n: usize) -> Option<(
     requires { Negatable mem.old numbers.old n }
     ensures { NegatedFrom mem.old numbers.old n result mem.new numbers.new }
 {
+    // By index: a number is read, and its negation's stands in its place.
     for k in 0..n {
         let i = negate_held(mem, numbers[k] as usize)?;
         numbers[k] = i as u16;

@@ -10,7 +10,7 @@ ghost use Rattle.expand.specs.Negations.{Table, Above, Negated};
 use held::entry::find;
 use held::words::field;
 
-// The tag of the negation.
+// The tag of the negation, by a table.
 fn dual(tag: usize) -> usize
     requires { tag < 13 }
     ensures { result ≡ negated_tag tag }
@@ -77,6 +77,7 @@ pub fn negations(mem: &[u16], table: &mut [u16])
     requires { Wf mem.now × (length table.old ≡ most) }
     ensures { Negated mem.now table.new }
 {
+    // By index: a word is worked out from those before it.
     for x in 0..top(mem) {
         table[x] = match negation(mem, table, x) {
             Some(i) => i as u16 + 1,

@@ -80,7 +80,7 @@ fn node_length(
     node_length(mem, negations, words, q, left - 1, first.at, first.to)
 }
 
-// Writes it.
+// Writes it. Not one function with the count: that stops early, and this one writes.
 fn node_bytes(
     mem: &[u16],
     negations: &[u16],

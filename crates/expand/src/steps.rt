@@ -11,7 +11,7 @@ use held::entry::find;
 use held::words::field;
 use zones::Zones;
 
-// Whether a formula with this tag is decomposed (search.rs: `prove_async`): Bottom, Top, Par, With, Lolli, WhyNot.
+// Whether a formula with this tag is decomposed, by a table (search.rs: `prove_async`): Bottom, Top, Par, With, Lolli, WhyNot.
 fn decomposes(tag: usize) -> bool
     requires { tag < 13 }
     ensures { result ≡ writing.decomposes tag }
@@ -22,7 +22,7 @@ fn decomposes(tag: usize) -> bool
     signs[tag]
 }
 
-// The place of the first decomposable formula, or how many there are.
+// The place of the first decomposable formula, or how many there are: by index, since the place is asked for.
 pub fn first_decomposable(mem: &[u16], z: Zones) -> usize
     requires { Sound mem.now z }
     ensures { FirstAt mem.now z result }
@@ -64,7 +64,7 @@ pub fn spelled(mem: &[u16], negations: &[u16], z: Zones) -> Zones
     z
 }
 
-// How many premises the word's rule has.
+// How many premises the word's rule has, by a table.
 pub fn premises(w: u64) -> usize
     requires { rule_of w < 15 }
     ensures { result ≡ get_or premise_counts (rule_of w) 0 }

@@ -25,7 +25,7 @@ pub fn well_formed(mem: &[u16]) -> bool
         && failures::form::well_formed(&mem[..FORMULAS], &mem[FORMULAS..])
 }
 
-// No formula and no failure is held: 0. Any words of the right length may be lent; words of another length stay as they are: 12.
+// No formula and no failure is held: 0. Any words of the right length may be lent; words of another length stay as they are: 12. The number itself: the C interface passes it on.
 pub fn reset(mem: &mut [u16]) -> u8
     ensures { ResetTo mem.old result mem.new }
 {

@@ -5,6 +5,7 @@
 ghost use Rattle.std.specs.Prelude.{◌≡◌, ◌+◌, ◌<◌, ◌≤◌, length};
 ghost use Rattle.zones.specs.Zones.{linears, unrestricteds, Fits, Made, Empty, Shifted, without, replaced, pushed, only, split, without_unrestricted, pushed_unrestricted};
 
+// Each zone with its count, in place: there is no heap. So what changes a zone is written once for each of the two.
 #[derive(Clone, Copy)]
 pub struct Zones {
     pub linear: [u16; 31],
@@ -105,6 +106,7 @@ impl Zones {
         requires { Fits self × (i < self.linear_len) }
         ensures { Made self (split side i mask a) result }
     {
+        // By index: an item moves to a place of its own count.
         let mut to = 0;
         for k in 0..self.linear_len - 1 {
             self.linear[to] = self.linear[k + usize::from(i <= k)];

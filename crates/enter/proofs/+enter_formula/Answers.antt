@@ -3,9 +3,6 @@ use Rattle.enter.proofs.Steps.{inside, leaf_next, leaf_close, one_ready, one_ful
 use native.Mathlib.Omega.{arith}
 use Rattle.enter.proofs.+enter_formula.Goals as goal
 
-pub sign_at-requires : goal.sign_at-requires
-sign_at-requires t c = record { formula = c.requires.formula; stands = c.requires.stands }
-
 pub store-requires : goal.store-requires
 store-requires t c = leaf_next _ _ _ c.requires _ _ _ (as_leaf _ _ c.sign_at.result c.sign_at.ensures _ _ _ c.in-Leaf.is)
 

@@ -16,14 +16,8 @@ returns-in_err-i c = let h = over_all _ _ _ _ _ _ c.loop-p.invariant.given _ (li
 pub overflow_cast-numbers : goal.overflow_cast-numbers
 overflow_cast-numbers c = omega (arith, listing_fits _ _ _ _ _ _ c.loop-p.invariant.given _ _ _ _ c.loop-p.invariant.far c.loop-p-test.true _ _ _ (entered_at _ _ _ c.enter_formula.result _ c.enter_formula.ensures _ _ c.in_ok-i.was))
 
-pub overflow_add-numbers : goal.overflow_add-numbers
-overflow_add-numbers c = omega (arith, listing_room _ _ _ _ _ _ c.loop-p.invariant.given _ _ _ _ c.loop-p.invariant.far c.loop-p-test.true _ _ _ (entered_at _ _ _ c.enter_formula.result _ c.enter_formula.ensures _ _ c.in_ok-i.was))
-
 pub bounds-numbers-from : goal.bounds-numbers-from
 bounds-numbers-from c = listing_room _ _ _ _ _ _ c.loop-p.invariant.given _ _ _ _ c.loop-p.invariant.far c.loop-p-test.true _ _ _ (entered_at _ _ _ c.enter_formula.result _ c.enter_formula.ensures _ _ c.in_ok-i.was)
-
-pub overflow_add-n : goal.overflow_add-n
-overflow_add-n c = omega (arith, listing_room _ _ _ _ _ _ c.loop-p.invariant.given _ _ _ _ c.loop-p.invariant.far c.loop-p-test.true _ _ _ (entered_at _ _ _ c.enter_formula.result _ c.enter_formula.ensures _ _ c.in_ok-i.was))
 
 pub loop-p-smaller : goal.loop-p-smaller
 loop-p-smaller c = omega (arith, listing_falls _ _ _ _ _ _ c.loop-p.invariant.given _ _ _ _ c.loop-p.invariant.far c.loop-p-test.true _ _ _ (entered_at _ _ _ c.enter_formula.result _ c.enter_formula.ensures _ _ c.in_ok-i.was), c.loop-p-test.true)
