@@ -197,6 +197,7 @@ fn times_in(s: &[u8], bag: &[Run], x: Place) -> usize
     ensures { CountsIn s.now bag.now x result }
 {
     let mut n = 0;
+    // A `for`, no `sum`: what is known of a run's count is no function of the run.
     for &run in bag {
         n += times(s, run, x);
     }
@@ -243,6 +244,7 @@ fn count_in(s: &[u8], bag: &[Run]) -> usize
     ensures { LongIn s.now bag.now result }
 {
     let mut n = 0;
+    // A `for`, no `sum`: what is known of a run's count is no function of the run.
     for &run in bag {
         n += count(s, run);
     }
@@ -257,6 +259,7 @@ pub fn same_bag(s: &[u8], x: &[Run], y: &[Run]) -> bool
     if count_in(s, x) != count_in(s, y) {
         return false;
     }
+    // A `for`, no `all`: for the same reason.
     for &run in x {
         if !agree_on(s, run, x, y) {
             return false;
