@@ -30,41 +30,18 @@ pub fn weigh(mem: &[u16], n: usize, tag: usize, a: usize, b: usize) -> Option<We
     requires { ((n ≤ most) × (a < 65536)) × (length mem.now ≡ words) }
     ensures { Weighed mem.now n tag a b result }
 {
-    if tag < 4 {
-        if a == 0 {
-            if b == 0 {
-                return Some(Weight { height: 1, size: 1 });
-            }
-        }
-        return None;
-    }
-    if tag < 6 {
-        if b == 0 {
-            return Some(Weight { height: 1, size: 3 });
-        }
-        return None;
-    }
-    if 12 < tag {
-        return None;
-    }
-    if n <= a {
-        return None;
-    }
-    if tag < 11 {
-        if n <= b {
-            return None;
-        }
-        return joined(
+    match tag {
+        0..4 if a == 0 && b == 0 => Some(Weight { height: 1, size: 1 }),
+        4..6 if b == 0 => Some(Weight { height: 1, size: 3 }),
+        6..11 if a < n && b < n => joined(
             field(mem, a, 3),
             field(mem, b, 3),
             field(mem, a, 4),
             field(mem, b, 4),
-        );
+        ),
+        11..13 if a < n && b == 0 => joined(field(mem, a, 3), 0, field(mem, a, 4), 0),
+        _ => None,
     }
-    if b == 0 {
-        return joined(field(mem, a, 3), 0, field(mem, a, 4), 0);
-    }
-    None
 }
 
 // Whether formula i may stand where it stands.
