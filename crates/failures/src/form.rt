@@ -15,15 +15,8 @@ fn item_fits(held: &[u16], x: usize) -> bool
     requires { Wf held.now }
     ensures { Tells result (Item held.now x) }
 {
-    let n = held[0] as usize;
     let i = x / 2;
-    if n <= i {
-        return false;
-    }
-    if x % 2 == 1 {
-        return true;
-    }
-    field(held, i, 0) != 12
+    i < held[0] as usize && (x % 2 == 1 || field(held, i, 0) != 12)
 }
 
 // Whether the first n items of failure i are of held formulas and never fall.
@@ -51,13 +44,7 @@ fn record_fits(held: &[u16], fail: &[u16], i: usize) -> bool
     ensures { Tells result (Stands held.now fail.now i) }
 {
     let n = fail[1 + 32 * i] as usize;
-    if 31 < n {
-        return false;
-    }
-    if !items_fit(held, fail, i, n) {
-        return false;
-    }
-    zeros(fail, 2 + 32 * i + n, 33 + 32 * i)
+    n <= 31 && items_fit(held, fail, i, n) && zeros(fail, 2 + 32 * i + n, 33 + 32 * i)
 }
 
 // Whether the first n failures may stand where they stand.
@@ -77,19 +64,11 @@ pub fn well_formed(held: &[u16], fail: &[u16]) -> bool
         return false;
     }
     let n = fail[0] as usize;
-    if MOST < n {
-        return false;
-    }
-    if !records_fit(held, fail, n) {
-        return false;
-    }
-    if !ordered(fail, n) {
-        return false;
-    }
-    if !zeros(fail, 1 + 32 * n, ORDER) {
-        return false;
-    }
-    zeros(fail, ORDER + n, WORDS)
+    n <= MOST
+        && records_fit(held, fail, n)
+        && ordered(fail, n)
+        && zeros(fail, 1 + 32 * n, ORDER)
+        && zeros(fail, ORDER + n, WORDS)
 }
 
 // No failure is recorded. Any words of the right length may be lent.
