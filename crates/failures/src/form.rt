@@ -15,8 +15,16 @@ fn item_fits(held: &[u16], x: usize) -> bool
     requires { Wf held.now }
     ensures { Tells result (Item held.now x) }
 {
+    // By early returns: as one condition it compiles to a second test of each marked item.
+    let n = held[0] as usize;
     let i = x / 2;
-    i < held[0] as usize && (x % 2 == 1 || field(held, i, 0) != 12)
+    if n <= i {
+        return false;
+    }
+    if x % 2 == 1 {
+        return true;
+    }
+    field(held, i, 0) != 12
 }
 
 // Whether the first n items of failure i are of held formulas and never fall.
