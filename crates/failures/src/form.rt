@@ -32,6 +32,7 @@ fn items_fit(held: &[u16], fail: &[u16], i: usize, n: usize) -> bool
     requires { (Wf held.now × (length fail.now ≡ words)) × ((i < most) × (n ≤ 31)) }
     ensures { Tells result (Listing held.now (items_at fail.now i n)) }
 {
+    // One pass: the whole memory is tested at each call.
     let mut last: usize = 0;
     for k in 0..n {
         let x = fail[2 + 32 * i + k] as usize;

@@ -9,7 +9,7 @@ pub mod order; // order.rt: the order words
 pub mod records; // records.rt: looking a failure up, and recording it
 pub mod form; // form.rt: the well-formed test, and reset
 
-// What became of a failure that was to be recorded.
+// What became of a failure that was to be recorded: three cases, so no Option.
 #[derive(Clone, Copy)]
 pub enum Noted {
     Known,

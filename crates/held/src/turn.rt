@@ -8,7 +8,7 @@ ghost use Rattle.held.specs.Turn.{Turn, StepOf, Ready, Finished, Turned, Entered
 use super::entry::{add, cut};
 use super::words::field;
 
-// The tag of the negation.
+// The tag of the negation. By a table: this crate reads tags as words and does not use `formula`.
 fn dual(tag: usize) -> usize
     requires { tag < 13 }
     ensures { result ≡ negated_tag tag }
@@ -31,6 +31,7 @@ fn step_of(mem: &[u16], memo: &[u16], x: usize) -> Step
     requires { Turn mem.now memo.now x }
     ensures { StepOf mem.now x result }
 {
+    // Words and no options, as the memo is of fixed memory: 0 where the negation is not known.
     let known = memo[x] as usize;
     if known != 0 {
         return Step::Known(known - 1);
