@@ -17,7 +17,7 @@ use search::counters::Counters;
 use search::{Outcome, Prover};
 use zones::Zones;
 
-// What `prove` answers: how many bytes of a tree stand in the front of the output; that none was found; or a refusal.
+// What `prove` answers: how many bytes of a tree stand in the front of the output; that none was found; or a refusal. Three cases, as document 01 has them.
 #[derive(Clone, Copy)]
 pub enum Answer {
     Found(usize, Counters),

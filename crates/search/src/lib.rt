@@ -14,6 +14,7 @@ use ring::Spot;
 use zones::Zones;
 
 // What a search answers: a tree, as the words of its nodes, up to the next free word of the work slice; none; or a refusal.
+// Three cases, as document 01 has them: let-else passes a refusal up, and if-let goes on.
 #[derive(Clone, Copy)]
 pub enum Outcome {
     Found(usize, Counters),

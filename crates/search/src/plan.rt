@@ -151,7 +151,7 @@ pub fn premise(rule: Exponential, z: Zones, i: usize) -> Zones
     }
 }
 
-// A node's word: the rule's number, the place of the principal formula in its zone, the mask.
+// A node's word: the rule's number, the place of the principal formula in its zone, the mask. As step's `node_word`: neither crate uses the other.
 pub fn word(rule: u64, place: usize, mask: usize) -> u64
     requires { (rule < 32) × ((place < 32) × (mask < 1073741824)) }
     ensures { result ≡ short.word rule place mask }

@@ -16,7 +16,8 @@ use memory::failed::{known, record_failure};
 use memory::shape::spell;
 use zones::Zones;
 
-// Where a visit stands: how many depths are left, its depth, and the next free word of the work slice.
+// Where a visit stands: how many depths are left, its depth, and the next free word of the work slice. The counters stay beside it: each call answers new ones. Memory and work stay two
+// slices: each is lent on by itself.
 #[derive(Clone, Copy)]
 pub struct Spot {
     pub left: usize,
@@ -231,7 +232,7 @@ impl Prover {
             Focus::One => leaf(2, spot.at, c, work),
             Focus::Tensor(a, b) => self.masks(z, i, a, b, spot, c, mem, work),
             Focus::Plus(a, b) => self.plus(z, i, a, b, spot, c, mem, work),
-            Focus::OfCourse(a) => { self.under(z.only(a), word(10, i, 0), spot, c, mem, work) }
+            Focus::OfCourse(a) => self.under(z.only(a), word(10, i, 0), spot, c, mem, work),
             Focus::Nothing => Outcome::Nothing(c),
         }
     }
