@@ -12,7 +12,7 @@ use step::{is_crowded, may_take, node_word, spell_first};
 use tree::{after, byte_at};
 use zones::Zones;
 
-// The longest tree message, and past it.
+// The longest tree message, and past it: no place is counted further, as the promise says (`on`).
 pub const LONGEST: usize = 65538;
 
 pub const TOO_LONG: usize = 65539;
@@ -97,6 +97,7 @@ pub fn grow(
         return Err(Stop::Full);
     };
     let node = node_at(s, at);
+    // Both are asked first, and 15 is answered before 6.
     let takes = may_take(mem, c, node.rule, node.place, node.mask);
     let crowded = is_crowded(c, node.rule);
     if !takes {

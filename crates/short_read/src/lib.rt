@@ -13,7 +13,7 @@ pub const VERSION: u8 = 2;
 
 pub const TENSOR_INTRO: u8 = 4;
 
-// How many premises a rule has, by its number; 3 for a number that has no short form.
+// How many premises a rule has, by its number; 3 for a number that has no short form, as the laws count it (`premises_by`).
 const PREMISES: [usize; 15] = [0, 3, 0, 1, 2, 1, 0, 2, 1, 1, 1, 1, 1, 1, 1];
 
 pub const NO_SHORT_FORM: usize = 3;
@@ -39,9 +39,12 @@ pub fn four_at(s: &[u8], at: usize) -> usize
     requires { at ≤ 100000 }
     ensures { (result ≡ four s.now at) × (result < 4294967296) }
 {
-    let high = usize::from(byte_at(s, at)) * 256 + usize::from(byte_at(s, at + 1));
-    let low = usize::from(byte_at(s, at + 2)) * 256 + usize::from(byte_at(s, at + 3));
-    high * 65536 + low
+    u32::from_be_bytes([
+        byte_at(s, at),
+        byte_at(s, at + 1),
+        byte_at(s, at + 2),
+        byte_at(s, at + 3),
+    ]) as usize
 }
 
 // A node's own bytes: no byte 3, height 5, rule 2, place and mask 3. The place after them.

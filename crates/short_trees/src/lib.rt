@@ -129,6 +129,7 @@ fn expand_in(
     }
 }
 
+// The same with the other reader and the other walk: no closure, since the walk writes memory and output, and its contract is the form's.
 fn shorten_in(
     mem: &mut [u16],
     question: &[u8],

@@ -13,7 +13,7 @@ use held::turn::spell_held;
 use held::words::field;
 use zones::Zones;
 
-// Rules by document 01's number.
+// Rules by document 01's number: a step is asked for by numbers, and any number may be asked.
 pub const AXIOM: usize = 0;
 
 pub const ONE_INTRO: usize = 2;
@@ -67,7 +67,7 @@ pub const OF_COURSE: usize = 11;
 
 const WHY_NOT: usize = 12;
 
-// One past the tags.
+// One past the tags, as the laws have it (`decomposed_tag`).
 const NO_TAG: usize = 13;
 
 // The most formulas of a sequent.

@@ -2,20 +2,11 @@ use native.Mathlib.Omega.{arith}
 use Rattle.std.proofs.Common.{rules}
 use Rattle.step.proofs.TakingSteps.{linear_fits}
 use Rattle.held.proofs.TurnSteps.{entered_at, entered_full}
-use Rattle.step.proofs.SpeltSteps.{first_in, number_fits, spelt_none, spelt_other, is_implication, spelt_full, spelt_lolli}
+use Rattle.step.proofs.SpeltSteps.{first_in, spelt_none, spelt_other, is_implication, spelt_full, spelt_lolli}
 use Rattle.step.proofs.spell_first.Goals as goal
 
 pub returns-then-i-z : goal.returns-then-i-z
 returns-then-i-z c = spelt_none c.requires c.first_decomposable-i.ensures c.if-i-z.true
-
-pub offset_bounds-z-i : goal.offset_bounds-z-i
-offset_bounds-z-i c = omega (arith, c.requires.fits.few, (first_in c.first_decomposable-i.ensures c.if-i-z.false))
-
-pub bounds-z-i : goal.bounds-z-i
-bounds-z-i c = omega (arith, c.requires.fits.few, (first_in c.first_decomposable-i.ensures c.if-i-z.false))
-
-pub overflow_cast-x : goal.overflow_cast-x
-overflow_cast-x c = omega (arith, linear_fits c.requires _ (first_in c.first_decomposable-i.ensures c.if-i-z.false))
 
 pub field-requires : goal.field-requires
 field-requires c = ((linear_fits c.requires _ (first_in c.first_decomposable-i.ensures c.if-i-z.false), omega arith), c.requires.wf.sized)
@@ -28,12 +19,6 @@ spell_held-requires c = is_implication c.requires c.first_decomposable-i.ensures
 
 pub returns-in_err-p : goal.returns-in_err-p
 returns-in_err-p c = let h = spelt_full c.requires c.first_decomposable-i.ensures (first_in c.first_decomposable-i.ensures c.if-i-z.false) c.field.ensures c.if-field-ne-LOLLI.false (entered_full _ _ c.spell_held.result _ c.spell_held.ensures c.in_err-p.was) in search rules
-
-pub overflow_cast-p : goal.overflow_cast-p
-overflow_cast-p c = omega (arith, number_fits (entered_at _ _ c.spell_held.result _ _ c.spell_held.ensures c.in_ok-p.was))
-
-pub replaced-requires : goal.replaced-requires
-replaced-requires c = (c.requires.fits, (first_in c.first_decomposable-i.ensures c.if-i-z.false))
 
 pub returns : goal.returns
 returns c = spelt_lolli c.requires c.first_decomposable-i.ensures (first_in c.first_decomposable-i.ensures c.if-i-z.false) c.field.ensures c.if-field-ne-LOLLI.false (entered_at _ _ c.spell_held.result _ _ c.spell_held.ensures c.in_ok-p.was) c.replaced.ensures
