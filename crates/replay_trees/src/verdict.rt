@@ -30,25 +30,23 @@ pub fn failed(answer: u8, rule: u8, node: usize, wrappers: usize) -> Verdict {
 }
 
 pub fn told(v: Result<(), Rejected>) -> Verdict {
-    match v {
-        Ok(()) => bare(0),
-        Err(Rejected::Refused(why)) => bare(u8::from(why)),
-        Err(
-            Rejected::Invalid {
-                rule,
-                node,
-                wrappers,
-            },
-        ) => failed(13, rule, node, wrappers),
-        Err(
-            Rejected::WrongCount {
-                rule,
-                node,
-                wrappers,
-                expected,
-                got,
-            },
-        ) => Verdict {
+    let Err(rejected) = v else {
+        return bare(0);
+    };
+    match rejected {
+        Rejected::Refused(why) => bare(u8::from(why)),
+        Rejected::Invalid {
+            rule,
+            node,
+            wrappers,
+        } => failed(13, rule, node, wrappers),
+        Rejected::WrongCount {
+            rule,
+            node,
+            wrappers,
+            expected,
+            got,
+        } => Verdict {
             answer: 14,
             rule,
             node,
@@ -56,12 +54,10 @@ pub fn told(v: Result<(), Rejected>) -> Verdict {
             expected,
             got,
         },
-        Err(
-            Rejected::Mismatch {
-                rule,
-                node,
-                wrappers,
-            },
-        ) => failed(15, rule, node, wrappers),
+        Rejected::Mismatch {
+            rule,
+            node,
+            wrappers,
+        } => failed(15, rule, node, wrappers),
     }
 }

@@ -1,18 +1,12 @@
 -- What a call of the boundary says: document 01's number, a value in a lent place, 0 where there is none, and the bytes of a lent buffer. Each is a function of what went in. Assumes nothing: these are definitions.
-use Rattle.std.specs.Prelude.{◌≡◌, cond, List, ℕ}
+use Rattle.std.specs.Prelude.{◌≡◌, Bool, cond, Result, Ok, Err, List, ℕ}
 use Rattle.logic.specs.Answer.{number, wrong_memory}
 use Rattle.logic.specs.Formula.{Formula}
 use Rattle.wire.specs.Read.{read_one, read_question}
 use Rattle.formula.specs.Answers.{number_of}
 use Rattle.formula.specs.Calls.{written, left_in}
 use Rattle.formula.specs.declared.Refusal.{Refusal}
-use Rattle.formula.specs.declared.Written.{Written}
-use Rattle.formula.specs.declared.Written.TheVariants as written_as
-use Rattle.formula.specs.declared.Positive.{Positive}
-use Rattle.formula.specs.declared.Positive.TheVariants as positive_as
 use Rattle.question.specs.Answers as question
-use Rattle.tree.specs.declared.Measured.{Measured}
-use Rattle.tree.specs.declared.Measured.TheVariants as measured_as
 use Rattle.memory.specs.Meaning.{Wf}
 use Rattle.vakelumba.specs.declared.said.Said.{Said}
 
@@ -24,17 +18,17 @@ refusal k = record { number = number_of k; value = 0 }
 abbrev pub value_of : ℕ → Said
 value_of n = record { number = 0; value = n }
 
-abbrev pub of_written : Written → Said
-of_written (written_as.Bytes n) = value_of n
-of_written (written_as.Refused k) = refusal k
+abbrev pub of_written : Result ℕ Refusal → Said
+of_written (Ok n) = value_of n
+of_written (Err k) = refusal k
 
-abbrev pub of_measured : Measured → Said
-of_measured (measured_as.Depth n) = value_of n
-of_measured (measured_as.Refused k) = refusal k
+-- a depth is told as a length is
+abbrev pub of_measured : Result ℕ Refusal → Said
+of_measured = of_written
 
-abbrev pub of_positive : Positive → Said
-of_positive (positive_as.Is b) = value_of (cond b 1 0)
-of_positive (positive_as.Refused k) = refusal k
+abbrev pub of_positive : Result Bool Refusal → Said
+of_positive (Ok b) = value_of (cond b 1 0)
+of_positive (Err k) = refusal k
 
 -- ---- what is promised of a call that answers r and leaves a value
 
@@ -43,7 +37,7 @@ pub record Says (a : Said) (r value : ℕ) : Type 0 where
   pub value_is : value ≡ a.value
 
 -- a writer: its buffer after the call too
-pub record WrittenSaid (w : Written) (buffer : List ℕ) (r value : ℕ) (last : List ℕ) : Type 0 where
+pub record WrittenSaid (w : Result ℕ Refusal) (buffer : List ℕ) (r value : ℕ) (last : List ℕ) : Type 0 where
   pub says : Says (of_written w) r value
   pub buffer_is : last ≡ buffer
 

@@ -1,5 +1,5 @@
 -- Laws of what the boundary's calls say: from the promise of the call below, and that no second result meets the boundary's. Assumes nothing.
-use Rattle.std.specs.Prelude.{◌≡◌, refl, Bool, true, false, cond, List, ℕ}
+use Rattle.std.specs.Prelude.{◌≡◌, refl, Bool, true, false, cond, Result, Ok, List, ℕ}
 use Rattle.std.proofs.Common.{sym, ap, ◌∙◌}
 use Rattle.std.proofs.lemmas.Bool.{false≢true}
 use mir.Val.{bool_byte}
@@ -8,9 +8,6 @@ use Rattle.logic.specs.Formula.{Formula}
 use Rattle.formula.specs.Answers.{number_of}
 use Rattle.formula.specs.Calls.{Writes}
 use Rattle.formula.specs.declared.Refusal.{Refusal}
-use Rattle.formula.specs.declared.Positive.{Positive}
-use Rattle.formula.specs.declared.Positive.TheVariants.{Is}
-use Rattle.formula.specs.declared.Written.{Written}
 use Rattle.question.specs.Answers.{OneSided}
 use Rattle.held.specs.Answers.{Tells}
 use Rattle.memory.specs.Meaning.{Wf}
@@ -25,10 +22,10 @@ refusal_is k e = λ i. record { number = e i; value = 0 }
 pub answer_said : {a b : Said} {r value : ℕ} → a ≡ b → Says a r value → Says b r value
 answer_said e t = rw (sym e) t
 
-pub text_said : {text : Formula → List ℕ} {s out last : List ℕ} {w : Written} {a : Said} {r value : ℕ} → Writes text s out w last → a ≡ of_written w → Says a r value → TextSaid text s out r value last
+pub text_said : {text : Formula → List ℕ} {s out last : List ℕ} {w : Result ℕ Refusal} {a : Said} {r value : ℕ} → Writes text s out w last → a ≡ of_written w → Says a r value → TextSaid text s out r value last
 text_said p e t = record { says = answer_said (e ∙ ap of_written p.answer) t; buffer_is = p.buffer }
 
-pub turned_said : {s out last : List ℕ} {w : Written} {a : Said} {r value : ℕ} → OneSided s out w last → a ≡ of_written w → Says a r value → TurnedSaid s out r value last
+pub turned_said : {s out last : List ℕ} {w : Result ℕ Refusal} {a : Said} {r value : ℕ} → OneSided s out w last → a ≡ of_written w → Says a r value → TurnedSaid s out r value last
 turned_said p e t = record { says = answer_said (e ∙ ap of_written p.answer) t; buffer_is = p.buffer }
 
 -- a bool is 1 or 0
@@ -36,7 +33,7 @@ bit_is : (b : Bool) → bool_byte b ≡ cond b 1 0
 bit_is true = refl
 bit_is false = refl
 
-pub bit_said : {p : Positive} {b : Bool} → p ≡ Is b → Says (of_positive p) 0 (bool_byte b)
+pub bit_said : {p : Result Bool Refusal} {b : Bool} → p ≡ Ok b → Says (of_positive p) 0 (bool_byte b)
 bit_said {p} {b} e = answer_said (ap of_positive (sym e)) (record { number_is = refl; value_is = bit_is b })
 
 -- the test of a lent memory
@@ -53,7 +50,7 @@ formed_ill false z e = ill z refl
 pub says_once : {a : Said} {r r' v v' : ℕ} → Says a r v → Says a r' v' → (r ≡ r') × (v ≡ v')
 says_once x y = (x.number_is ∙ sym y.number_is, x.value_is ∙ sym y.value_is)
 
-pub written_once : {w : Written} {buffer last last' : List ℕ} {r r' v v' : ℕ} → WrittenSaid w buffer r v last → WrittenSaid w buffer r' v' last' → (r ≡ r') × (v ≡ v') × (last ≡ last')
+pub written_once : {w : Result ℕ Refusal} {buffer last last' : List ℕ} {r r' v v' : ℕ} → WrittenSaid w buffer r v last → WrittenSaid w buffer r' v' last' → (r ≡ r') × (v ≡ v') × (last ≡ last')
 written_once x y = let s = says_once x.says y.says in (s.0, s.1, x.buffer_is ∙ sym y.buffer_is)
 
 pub formed_once : {m : List ℕ} {r r' : ℕ} → FormedSaid m r → FormedSaid m r' → r ≡ r'

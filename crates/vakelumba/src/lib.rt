@@ -19,14 +19,13 @@ ghost use Rattle.verify.specs.Walks.{mode_test};
 ghost use Rattle.prover.specs.Promise.{call_of};
 ghost use Rattle.memory.specs.Meaning.{words, ResetTo};
 ghost use Rattle.short_trees.specs.Promise as promise;
-ghost use Rattle.vakelumba.specs.Says.{of_measured, of_positive, Says, TextSaid, TurnedSaid, FormedSaid};
+ghost use Rattle.vakelumba.specs.Says.{of_written, of_positive, Says, TextSaid, TurnedSaid, FormedSaid};
 ghost use Rattle.vakelumba.specs.Judged.{JudgedSaid};
 ghost use Rattle.vakelumba.specs.Proved.{ProvedSaid};
 ghost use Rattle.vakelumba.specs.Shorts.{ShortSaid};
 
 use proved::{Counters, asked};
-use said::{said_measured, said_written, tell, tell_positive};
-use shorts::said_short;
+use said::{Said, tell, tell_positive};
 use verdict::{Fault, judged};
 
 // formula.rs: `negate`, of one formula.
@@ -34,7 +33,7 @@ use verdict::{Fault, judged};
 pub extern "C" fn vk_negate(s: &[u8], out: &mut [u8], written: &mut usize) -> u8
     ensures { TextSaid (λ f. write_formula (of.negate f)) s.now out.old result written.new out.new }
 {
-    tell(said_written(formula::negate(s, out)), written)
+    tell(Said::from(formula::negate(s, out)), written)
 }
 
 // formula.rs: `desugar`, of one formula.
@@ -42,7 +41,7 @@ pub extern "C" fn vk_negate(s: &[u8], out: &mut [u8], written: &mut usize) -> u8
 pub extern "C" fn vk_desugar(s: &[u8], out: &mut [u8], written: &mut usize) -> u8
     ensures { TextSaid (λ f. write_formula (of.desugar f)) s.now out.old result written.new out.new }
 {
-    tell(said_written(formula::desugar(s, out)), written)
+    tell(Said::from(formula::desugar(s, out)), written)
 }
 
 // formula.rs: `pretty`, of one formula, in UTF-8.
@@ -50,7 +49,7 @@ pub extern "C" fn vk_desugar(s: &[u8], out: &mut [u8], written: &mut usize) -> u
 pub extern "C" fn vk_pretty(s: &[u8], out: &mut [u8], written: &mut usize) -> u8
     ensures { TextSaid as_text.pretty s.now out.old result written.new out.new }
 {
-    tell(said_written(print::pretty(s, out)), written)
+    tell(Said::from(print::pretty(s, out)), written)
 }
 
 // formula.rs: `pretty_ascii`, of one formula.
@@ -58,7 +57,7 @@ pub extern "C" fn vk_pretty(s: &[u8], out: &mut [u8], written: &mut usize) -> u8
 pub extern "C" fn vk_pretty_ascii(s: &[u8], out: &mut [u8], written: &mut usize) -> u8
     ensures { TextSaid as_text.pretty_ascii s.now out.old result written.new out.new }
 {
-    tell(said_written(print::pretty_ascii(s, out)), written)
+    tell(Said::from(print::pretty_ascii(s, out)), written)
 }
 
 // formula.rs: `is_positive`, of one formula: 1 or 0.
@@ -74,15 +73,15 @@ pub extern "C" fn vk_is_positive(s: &[u8], positive: &mut u8) -> u8
 pub extern "C" fn vk_to_one_sided(s: &[u8], out: &mut [u8], written: &mut usize) -> u8
     ensures { TurnedSaid s.now out.old result written.new out.new }
 {
-    tell(said_written(question::to_one_sided(s, out)), written)
+    tell(Said::from(question::to_one_sided(s, out)), written)
 }
 
 // proof.rs: `depth`, of one tree.
 #[unsafe(no_mangle)]
 pub extern "C" fn vk_depth(s: &[u8], depth: &mut usize) -> u8
-    ensures { Says (of_measured (depth_of (read_tree s.now))) result depth.new }
+    ensures { Says (of_written (depth_of (read_tree s.now))) result depth.new }
 {
-    tell(said_measured(tree::depth(s)), depth)
+    tell(Said::from(tree::depth(s)), depth)
 }
 
 // verify.rs: `verify_proof`, of one tree, in shape mode or in strict mode: where it is wrong, and why.
@@ -156,7 +155,7 @@ pub extern "C" fn vk_shorten(
     ensures { ShortSaid promise.shortening (promise.call_of question.now tree.now mem.old out.old) result written.new mem.new out.new }
 {
     tell(
-        said_short(short_trees::shorten(question, tree, mem, out)),
+        Said::from(short_trees::shorten(question, tree, mem, out)),
         written,
     )
 }
@@ -173,7 +172,7 @@ pub extern "C" fn vk_expand(
     ensures { ShortSaid promise.expanding (promise.call_of question.now short.now mem.old out.old) result written.new mem.new out.new }
 {
     tell(
-        said_short(short_trees::expand(question, short, mem, out)),
+        Said::from(short_trees::expand(question, short, mem, out)),
         written,
     )
 }

@@ -7,28 +7,38 @@ use prover::Answer;
 
 // search.rs: `ProverStats`: the visits, the failures met again, and the greatest depth.
 #[repr(C)]
-#[derive(Clone, Copy)]
+#[derive(Clone, Copy, Debug, PartialEq, Eq)]
 pub struct Counters {
     pub explored: usize,
     pub hits: usize,
     pub reached: usize,
 }
 
-#[derive(Clone, Copy)]
+#[derive(Clone, Copy, Debug, PartialEq, Eq)]
 pub struct Report {
     pub number: u8,
     pub counters: Counters,
 }
 
+impl From<search::counters::Counters> for Counters {
+    ghost from_gives = { λ c d. d ≡ counters_said c };
+
+    fn from(c: search::counters::Counters) -> Counters {
+        Counters {
+            explored: c.explored,
+            hits: c.hits,
+            reached: c.reached,
+        }
+    }
+}
+
 fn reported(number: u8, c: search::counters::Counters) -> Report
     ensures { (result.number ≡ number) × (result.counters ≡ counters_said c) }
 {
-    let counters = Counters {
-        explored: c.explored,
-        hits: c.hits,
-        reached: c.reached,
-    };
-    Report { number, counters }
+    Report {
+        number,
+        counters: Counters::from(c),
+    }
 }
 
 // A question in bytes, searched: `prover::prove`, told by value. The length is 0 unless a tree was found.
@@ -44,18 +54,13 @@ pub fn asked(
 ) -> Report
     ensures { ReportSaid (call_of question.now limit budget cache mem.old work.old out.old) result written.new mem.new work.new out.new }
 {
+    *written = 0;
     match prover::prove(question, limit, budget, cache, mem, work, out) {
         Answer::Found(n, c) => {
             *written = n;
             reported(0, c)
         }
-        Answer::Nothing(c) => {
-            *written = 0;
-            reported(1, c)
-        }
-        Answer::Refused(why, c) => {
-            *written = 0;
-            reported(formula::number(why), c)
-        }
+        Answer::Nothing(c) => reported(1, c),
+        Answer::Refused(why, c) => reported(u8::from(why), c),
     }
 }

@@ -1,47 +1,30 @@
 // An answer of a call as document 01's number and a value, which is stored where the caller lent a place for it.
 ghost use Rattle.std.specs.Prelude.{◌≡◌};
-ghost use Rattle.vakelumba.specs.Says.{refusal, of_written, of_measured, of_positive, Says};
+ghost use Rattle.vakelumba.specs.Says.{of_written, of_positive, Says};
 
-use formula::{Positive, Refusal, Written};
-use tree::Measured;
+use formula::Refusal;
 
-// Document 01's number of the answer, and what else it says: a length, a depth or a bit; 0 on a refusal.
-#[derive(Clone, Copy)]
+// Document 01's number of the answer, and what else it says: a length or a depth; 0 on a refusal.
+#[derive(Clone, Copy, Debug, PartialEq, Eq)]
 pub struct Said {
     pub number: u8,
     pub value: usize,
 }
 
-fn refused(why: Refusal) -> Said
-    ensures { result ≡ refusal why }
-{
-    Said {
-        number: formula::number(why),
-        value: 0,
-    }
-}
+impl From<Result<usize, Refusal>> for Said {
+    ghost from_gives = { λ r a. a ≡ of_written r };
 
-pub fn said_written(w: Written) -> Said
-    ensures { result ≡ of_written w }
-{
-    match w {
-        Written::Bytes(n) => Said {
-            number: 0,
-            value: n,
-        },
-        Written::Refused(why) => refused(why),
-    }
-}
-
-pub fn said_measured(m: Measured) -> Said
-    ensures { result ≡ of_measured m }
-{
-    match m {
-        Measured::Depth(n) => Said {
-            number: 0,
-            value: n,
-        },
-        Measured::Refused(why) => refused(why),
+    fn from(r: Result<usize, Refusal>) -> Said {
+        match r {
+            Ok(n) => Said {
+                number: 0,
+                value: n,
+            },
+            Err(why) => Said {
+                number: u8::from(why),
+                value: 0,
+            },
+        }
     }
 }
 
@@ -49,23 +32,22 @@ pub fn said_measured(m: Measured) -> Said
 pub fn tell(a: Said, value: &mut usize) -> u8
     ensures { Says a result value.new }
 {
-    let v = a.value;
-    *value = v;
+    *value = a.value;
     a.number
 }
 
 // What `is_positive` answers, with 1 or 0 in the lent place.
-pub fn tell_positive(p: Positive, bit: &mut u8) -> u8
+pub fn tell_positive(p: Result<bool, Refusal>, bit: &mut u8) -> u8
     ensures { Says (of_positive p) result bit.new }
 {
     match p {
-        Positive::Is(b) => {
-            *bit = b as u8;
+        Ok(b) => {
+            *bit = u8::from(b);
             0
         }
-        Positive::Refused(why) => {
+        Err(why) => {
             *bit = 0;
-            formula::number(why)
+            u8::from(why)
         }
     }
 }

@@ -2,21 +2,29 @@
 ghost use Rattle.std.specs.Prelude.{◌≡◌};
 ghost use Rattle.vakelumba.specs.Shorts.{of_short};
 
-use super::said::{Said, said_written};
-use formula::Written;
+use super::said::Said;
+use short_trees::Failure;
 
 // Document 01's 15: the tree is none that the search's rules build for the question.
 const MISMATCH: u8 = 15;
 
-pub fn said_short(a: short_trees::Answer) -> Said
-    ensures { result ≡ of_short a }
-{
-    match a {
-        short_trees::Answer::Written(n) => said_written(Written::Bytes(n)),
-        short_trees::Answer::Mismatch => Said {
-            number: MISMATCH,
-            value: 0,
-        },
-        short_trees::Answer::Refused(why) => said_written(Written::Refused(why)),
+impl From<Result<usize, Failure>> for Said {
+    ghost from_gives = { λ r a. a ≡ of_short r };
+
+    fn from(r: Result<usize, Failure>) -> Said {
+        match r {
+            Ok(n) => Said {
+                number: 0,
+                value: n,
+            },
+            Err(Failure::Mismatch) => Said {
+                number: MISMATCH,
+                value: 0,
+            },
+            Err(Failure::Refused(why)) => Said {
+                number: u8::from(why),
+                value: 0,
+            },
+        }
     }
 }

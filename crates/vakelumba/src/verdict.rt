@@ -5,11 +5,11 @@ ghost use Rattle.verify.specs.Verdicts.{checked};
 ghost use Rattle.verify.specs.Walks.{mode_test};
 ghost use Rattle.vakelumba.specs.Judged.{fault_at, verdict};
 
-use verify::Verified;
+use verify::Rejected;
 
 // Where a tree is wrong: the rule's number, the node's number in preorder, the steps below the root, and how many premises were expected and got. All are 0 where the answer has none.
 #[repr(C)]
-#[derive(Clone, Copy)]
+#[derive(Clone, Copy, Debug, PartialEq, Eq)]
 pub struct Fault {
     pub rule: u8,
     pub node: usize,
@@ -18,7 +18,7 @@ pub struct Fault {
     pub got: usize,
 }
 
-#[derive(Clone, Copy)]
+#[derive(Clone, Copy, Debug, PartialEq, Eq)]
 pub struct Verdict {
     pub number: u8,
     pub fault: Fault,
@@ -50,25 +50,27 @@ fn bare(number: u8) -> Verdict
     at_node(number, 0, 0, 0, 0, 0)
 }
 
-fn verdict_of(v: Verified) -> Verdict
+fn verdict_of(v: Result<(), Rejected>) -> Verdict
     ensures { result ≡ verdict v }
 {
-    match v {
-        Verified::Accepted => bare(0),
-        Verified::Refused(why) => bare(formula::number(why)),
-        Verified::Invalid {
+    let Err(rejected) = v else {
+        return bare(0);
+    };
+    match rejected {
+        Rejected::Refused(why) => bare(u8::from(why)),
+        Rejected::Invalid {
             rule,
             node,
             wrappers,
         } => at_node(13, rule, node, wrappers, 0, 0),
-        Verified::WrongCount {
+        Rejected::WrongCount {
             rule,
             node,
             wrappers,
             expected,
             got,
         } => at_node(14, rule, node, wrappers, expected, got),
-        Verified::Mismatch {
+        Rejected::Mismatch {
             rule,
             node,
             wrappers,

@@ -4,4 +4,4 @@ use Rattle.vakelumba.specs.SaysLaws.{answer_said}
 use Rattle.vakelumba.proofs.vk_depth.Goals as goal
 
 pub returns : goal.returns
-returns c = answer_said (c.said_measured.ensures ∙ ap of_measured c.depth.ensures) c.tell.ensures
+returns c = answer_said (c.from.ensures ∙ ap of_measured c.depth.ensures) c.tell.ensures

@@ -3,4 +3,4 @@ use Rattle.vakelumba.specs.ShortsLaws.{short_said}
 use Rattle.vakelumba.proofs.vk_shorten.Goals as goal
 
 pub returns : goal.returns
-returns c = short_said shortening c.shorten.ensures c.said_short.ensures c.tell.ensures
+returns c = short_said shortening c.shorten.ensures c.from.ensures c.tell.ensures

@@ -8,4 +8,4 @@ pub returns-in-Nothing : goal.returns-in-Nothing
 returns-in-Nothing c = nothing_said _ c.prove.ensures _ c.in-Nothing.is c.reported-in-Nothing.ensures
 
 pub returns-in-Refused : goal.returns-in-Refused
-returns-in-Refused c = refused_said _ c.prove.ensures _ _ c.in-Refused.is c.number.ensures c.reported-in-Refused.ensures
+returns-in-Refused c = refused_said _ c.prove.ensures _ _ c.in-Refused.is c.from.ensures c.reported-in-Refused.ensures
