@@ -9,7 +9,7 @@ use borrow.Author.Count.{below_more}
 use borrow.Author.Tests.{eqb-true, eqb-false}
 use lib.Dec.{eqb}
 use Rattle.held.specs.Words.{at, Row, unit, name, two, one, RowAt, Rows}
-use Rattle.held.specs.Answers.{Tells, Weighed, Joined}
+use Rattle.held.specs.Answers.{Tells, Weighed}
 use Rattle.held.specs.declared.rows.Weight.{Weight}
 use Rattle.held.specs.contracts.rows.WeightPartialEq.TheImpl.{eq-value}
 use Rattle.std.specs.Option.{option_eq}
@@ -27,12 +27,6 @@ untold false P x e = x
 untold true P x e = let z : ◌≡◌ {A = ℕ} 0 1 = cc in absurd (omega arith)
 
 module _ {m : List ℕ} {n t a b h s : ℕ} where
-  pub row_bare : Row m n t a b h s → t < 4 → a ≡ 0
-  row_bare (unit l x y e f) p = x
-  row_bare (name k l x y e f) p = omega arith
-  row_bare (two k l x y e f u v) p = omega arith
-  row_bare (one k l x y e f u v) p = omega arith
-
   pub row_short : Row m n t a b h s → t < 6 → b ≡ 0
   row_short (unit l x y e f) p = y
   row_short (name k l x y e f) p = y
@@ -80,14 +74,6 @@ module _ {m : List ℕ} {n t a b h s : ℕ} where
   row_wide_one (name k l x y e f) p = omega arith
   row_wide_one (two k l x y e f u v) p = omega arith
   row_wide_one (one k l x y e f u v) p = omega arith
-
-pub weighed_two : (m : List ℕ) (n t a b h₁ h₂ s₁ s₂ : ℕ) (r : Option Weight) → Joined h₁ h₂ s₁ s₂ r → 6 ≤ t → t < 11 → a < n → b < n → h₁ ≡ at m a 3 → h₂ ≡ at m b 3 → s₁ ≡ at m a 4 → s₂ ≡ at m b 4 → Weighed m n t a b r
-weighed_two m n t a b h₁ h₂ s₁ s₂ (Some w) j k l x y e₁ e₂ f₁ f₂ = two k l x y (omega arith) (omega arith) (omega arith) (omega arith)
-weighed_two m n t a b h₁ h₂ s₁ s₂ None j k l x y e₁ e₂ f₁ f₂ = λ h s r. let u = row_tall r k l in let v = row_wide r k l in j (omega arith) (omega arith)
-
-pub weighed_one : (m : List ℕ) (n t a b h₁ s₁ : ℕ) (r : Option Weight) → Joined h₁ 0 s₁ 0 r → 11 ≤ t → t < 13 → a < n → b ≡ 0 → h₁ ≡ at m a 3 → s₁ ≡ at m a 4 → Weighed m n t a b r
-weighed_one m n t a b h₁ s₁ (Some w) j k l x z e₁ f₁ = one k l x z (omega arith) (omega arith) (omega arith) (omega arith)
-weighed_one m n t a b h₁ s₁ None j k l x z e₁ f₁ = λ h s r. let u = row_tall_one r k in let v = row_wide_one r k in j (omega arith) (omega arith)
 
 -- a row has one height and one size
 pub row_once : {m : List ℕ} {n t a b h s h' s' : ℕ} → Row m n t a b h s → Row m n t a b h' s' → (h ≡ h') × (s ≡ s')
