@@ -320,9 +320,6 @@ module _ (n : ℕ) (q₁ : Sequent) (at : ℕ) (q : Sequent) (rule : Rule) {run 
     found_here : Agrees n (spelled q₁) run (at + 1) p c m w (Found end d) m' w'
     found_here = answered e a
 
-    pub room_below : at < length w'
-    room_below = let f = found_here in omega (arith, f.low, f.stack, f.within, f.size)
-
     pub one_found : (x : ℕ) → in_memory.Kept (holds m) q → step q x ≡ some (q₁ ∷ [] by rule) → Agrees (suc n) q (from_one rule q run) at p c m w (Found end d) m' (set w' at x)
     one_found x held k =
         let f = found_here in
@@ -370,12 +367,6 @@ module _ (n : ℕ) (q₁ q₂ : Sequent) (at mid : ℕ) (q : Sequent) (rule : Ru
   module _ {end : ℕ} {d : Counters} (e : r ≡ Found end d) (room : p.budget ≤ length w) where
     right_tree : Agrees n (spelled q₂) run' mid p c₁ m₁ w₁ (Found end d) m' w'
     right_tree = answered e b
-
-    pub room_below_both : at < length w'
-    room_below_both =
-        let f = left_tree in
-        let g = right_tree in
-        omega (arith, f.low, f.size, g.low, g.stack, g.within, g.size)
 
     module _ (x : ℕ) (held : in_memory.Kept (holds m) q) (k : step q x ≡ some (q₁ ∷ q₂ ∷ [] by rule)) where
       words : slice at end (set w' at x) ≡ x ∷ slice (at + 1) mid w₁ ++ slice mid end w'
