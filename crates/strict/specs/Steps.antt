@@ -127,7 +127,7 @@ two_test n c q p p' =
 
 -- ---- what the code answers
 
--- what each step's code asks of its arguments
+-- what holds at each step of the code
 pub record Ready (s : List ℕ) (f : Principal) (q p : Node) : Type 0 where
   pub short : Short s
   pub principal_within : PrincipalWithin (length s) f

@@ -116,170 +116,227 @@ fn stands_in(s: &[u8], f: Run, zone: Run) -> bool
     bags::times(s, zone, x) > 0
 }
 
-fn keeps_zone(s: &[u8], q: Node, p: Node) -> bool
-    requires { Short s.now × NodeInside (length s.now) q × NodeInside (length s.now) p }
-    ensures { Keeps s.now q p result }
-{
-    bags::same_bag(s, &[unrestricted(p)], &[unrestricted(q)])
+// A node of a message, `q`, and its premises, `p` and `p2`. One premise alone stands here twice.
+#[derive(Clone, Copy)]
+struct Premises<'a> {
+    s: &'a [u8],
+    q: Node,
+    p: Node,
+    p2: Node,
+    ghost short: { Short s.now },
+    ghost conclusion_inside: { NodeInside (length s.now) q },
+    ghost premise_inside: { NodeInside (length s.now) p },
+    ghost second_inside: { NodeInside (length s.now) p2 },
 }
 
-fn bottom_step(s: &[u8], f: Principal, q: Node, p: Node) -> bool
-    requires { Ready s.now f q p }
-    ensures { StepIs s.now f q p bottom_step result }
-{
-    f.tag == 1 && bags::same_bag(s, &[linear(q)], &[f.whole, linear(p)])
+// The same with a principal formula, `f`.
+#[derive(Clone, Copy)]
+struct Step<'a> {
+    of: Premises<'a>,
+    f: Principal,
+    ghost ready: { Ready of.s.now f of.q of.p },
 }
 
-fn par_step(s: &[u8], f: Principal, q: Node, p: Node) -> bool
-    requires { Ready s.now f q p }
-    ensures { StepIs s.now f q p par_step result }
-{
-    f.tag == 7 && bags::same_bag(s, &[f.whole, linear(p)], &[f.left, f.right, linear(q)])
-}
-
-// One part in the place of the whole.
-fn is_replaced(s: &[u8], whole: Run, part: Run, q: Node, p: Node) -> bool
-    requires { Short s.now × RunWithin (length s.now) whole × RunWithin (length s.now) part × NodeInside (length s.now) q × NodeInside (length s.now) p }
-    ensures { Replaced s.now whole part q p result }
-{
-    bags::same_bag(s, &[whole, linear(p)], &[part, linear(q)])
-}
-
-fn with_step(s: &[u8], f: Principal, q: Node, p: Node, p2: Node) -> bool
-    requires { Ready s.now f q p × NodeInside (length s.now) p2 }
-    ensures { TwoStepsAre s.now f q p p2 with_step result }
-{
-    f.tag == 8 && is_replaced(s, f.whole, f.left, q, p) && is_replaced(s, f.whole, f.right, q, p2)
-}
-
-fn plus_step(s: &[u8], f: Principal, part: Run, q: Node, p: Node) -> bool
-    requires { Ready s.now f q p × RunWithin (length s.now) part }
-    ensures { PartStepIs s.now f q p part result }
-{
-    f.tag == 9 && is_replaced(s, f.whole, part, q, p)
-}
-
-fn tensor_step(s: &[u8], f: Principal, q: Node, p: Node, p2: Node) -> bool
-    requires { Ready s.now f q p × NodeInside (length s.now) p2 }
-    ensures { TwoStepsAre s.now f q p p2 tensor_step result }
-{
-    f.tag == 6
-        && stands_in(s, f.left, linear(p))
-        && stands_in(s, f.right, linear(p2))
-        && bags::same_bag(
-            s,
-            &[f.whole, linear(p), linear(p2)],
-            &[f.left, f.right, linear(q)],
-        )
-}
-
-fn of_course_step(s: &[u8], f: Principal, q: Node, p: Node) -> bool
-    requires { Ready s.now f q p }
-    ensures { StepIs s.now f q p of_course_step result }
-{
-    f.tag == 11
-        && bags::same_bag(s, &[linear(q)], &[f.whole])
-        && bags::same_bag(s, &[linear(p)], &[f.left])
-}
-
-fn why_not_step(s: &[u8], f: Principal, q: Node, p: Node) -> bool
-    requires { Ready s.now f q p }
-    ensures { StepIs s.now f q p why_not_step result }
-{
-    f.tag == 12
-        && bags::same_bag(s, &[linear(q)], &[f.whole, linear(p)])
-        && bags::same_bag(s, &[unrestricted(p)], &[plain(f.left), unrestricted(q)])
-}
-
-// The formula is taken out of the unrestricted zone.
-fn takes_out(s: &[u8], f: Principal, q: Node, p: Node) -> bool
-    requires { Ready s.now f q p }
-    ensures { StepIs s.now f q p takes_out result }
-{
-    bags::same_bag(s, &[unrestricted(q)], &[plain(f.whole), unrestricted(p)])
-}
-
-// Three rules, each with its own premise's linear zone: one function would only be passed that zone.
-fn weakening_step(s: &[u8], f: Principal, q: Node, p: Node) -> bool
-    requires { Ready s.now f q p }
-    ensures { StepIs s.now f q p weakening_step result }
-{
-    bags::same_bag(s, &[linear(p)], &[linear(q)]) && takes_out(s, f, q, p)
-}
-
-fn contraction_step(s: &[u8], f: Principal, q: Node, p: Node) -> bool
-    requires { Ready s.now f q p }
-    ensures { StepIs s.now f q p contraction_step result }
-{
-    bags::same_bag(s, &[linear(p)], &[f.whole, f.whole, linear(q)]) && takes_out(s, f, q, p)
-}
-
-fn dereliction_step(s: &[u8], f: Principal, q: Node, p: Node) -> bool
-    requires { Ready s.now f q p }
-    ensures { StepIs s.now f q p dereliction_step result }
-{
-    bags::same_bag(s, &[linear(p)], &[f.whole, linear(q)]) && takes_out(s, f, q, p)
-}
-
-// The step is legal with this formula as the principal one, but for the unrestricted zones that it keeps.
-fn step_at(s: &[u8], f: Principal, q: Node, p: Node, p2: Node) -> bool
-    requires { Ready s.now f q p × NodeInside (length s.now) p2 }
-    ensures { StepAt s.now f q p p2 result }
-{
-    let Ok(rule) = Rule::try_from(q.rule) else {
-        return false;
-    };
-    match rule {
-        Rule::BottomIntro => bottom_step(s, f, q, p),
-        Rule::TensorIntro => tensor_step(s, f, q, p, p2),
-        Rule::ParIntro => par_step(s, f, q, p),
-        Rule::WithIntro => with_step(s, f, q, p, p2),
-        Rule::PlusIntroLeft => plus_step(s, f, f.left, q, p),
-        Rule::PlusIntroRight => plus_step(s, f, f.right, q, p),
-        Rule::OfCourseIntro => of_course_step(s, f, q, p),
-        Rule::WhyNotIntro => why_not_step(s, f, q, p),
-        Rule::Weakening => weakening_step(s, f, q, p),
-        Rule::Contraction => contraction_step(s, f, q, p),
-        Rule::Dereliction => dereliction_step(s, f, q, p),
-        _ => false,
+impl<'a> Premises<'a> {
+    fn keeps_zone(&self, p: Node) -> bool
+        requires { NodeInside (length self.now.s.now) p }
+        ensures { Keeps self.now.s.now self.now.q p result }
+    {
+        bags::same_bag(self.s, &[unrestricted(p)], &[unrestricted(self.q)])
     }
-}
 
-// Some formula of the zone makes the step legal.
-fn some_step(s: &[u8], zone: Span, q: Node, p: Node, p2: Node) -> bool
-    requires { Short s.now × Within (length s.now) zone × NodeInside (length s.now) q × NodeInside (length s.now) p × NodeInside (length s.now) p2 }
-    ensures { SomeStep s.now zone q p p2 result }
-{
-    let mut x = zone.start;
-    // From formula to formula: no `for` over the bytes.
-    while x < zone.end {
-        let next = tree::next_formula(s, x, zone.end);
-        if step_at(s, principal_at(s, x, next), q, p, p2) {
-            return true;
+    // Some formula of the zone makes the step legal.
+    fn some_step(&self, zone: Span) -> bool
+        requires { Within (length self.now.s.now) zone }
+        ensures { SomeStep self.now.s.now zone self.now.q self.now.p self.now.p2 result }
+    {
+        let mut x = zone.start;
+        // From formula to formula: no `for` over the bytes.
+        while x < zone.end {
+            let next = tree::next_formula(self.s, x, zone.end);
+            let step = Step {
+                of: *self,
+                f: principal_at(self.s, x, next),
+            };
+            if step.is_legal() {
+                return true;
+            }
+            x = next;
         }
-        x = next;
+        false
     }
-    false
+
+    fn cut_step(&self) -> bool
+        ensures { CutIs self.now.s.now self.now.q self.now.p self.now.p2 result }
+    {
+        let at = self.q.argument;
+        let end = part_end(self.s, at, self.s.len());
+        let cut = Run {
+            at,
+            end,
+            how: How::Spelled,
+        };
+        let dual = Run {
+            how: How::Negated,
+            ..cut
+        };
+        stands_in(self.s, cut, linear(self.p))
+            && stands_in(self.s, dual, linear(self.p2))
+            && bags::same_bag(
+                self.s,
+                &[linear(self.p), linear(self.p2)],
+                &[cut, dual, linear(self.q)],
+            )
+    }
 }
 
-fn cut_step(s: &[u8], q: Node, p: Node, p2: Node) -> bool
-    requires { Short s.now × NodeInside (length s.now) q × NodeInside (length s.now) p × NodeInside (length s.now) p2 }
-    ensures { CutIs s.now q p p2 result }
-{
-    let at = q.argument;
-    let end = part_end(s, at, s.len());
-    let cut = Run {
-        at,
-        end,
-        how: How::Spelled,
-    };
-    let dual = Run {
-        how: How::Negated,
-        ..cut
-    };
-    stands_in(s, cut, linear(p))
-        && stands_in(s, dual, linear(p2))
-        && bags::same_bag(s, &[linear(p), linear(p2)], &[cut, dual, linear(q)])
+impl<'a> Step<'a> {
+    fn bottom_step(&self) -> bool
+        ensures { StepIs self.now.of.s.now self.now.f self.now.of.q self.now.of.p bottom_step result }
+    {
+        self.f.tag == 1
+            && bags::same_bag(
+                self.of.s,
+                &[linear(self.of.q)],
+                &[self.f.whole, linear(self.of.p)],
+            )
+    }
+
+    fn par_step(&self) -> bool
+        ensures { StepIs self.now.of.s.now self.now.f self.now.of.q self.now.of.p par_step result }
+    {
+        self.f.tag == 7
+            && bags::same_bag(
+                self.of.s,
+                &[self.f.whole, linear(self.of.p)],
+                &[self.f.left, self.f.right, linear(self.of.q)],
+            )
+    }
+
+    // One part in the place of the whole.
+    fn is_replaced(&self, part: Run, p: Node) -> bool
+        requires { RunWithin (length self.now.of.s.now) part × NodeInside (length self.now.of.s.now) p }
+        ensures { Replaced self.now.of.s.now self.now.f.whole part self.now.of.q p result }
+    {
+        bags::same_bag(
+            self.of.s,
+            &[self.f.whole, linear(p)],
+            &[part, linear(self.of.q)],
+        )
+    }
+
+    fn with_step(&self) -> bool
+        ensures { TwoStepsAre self.now.of.s.now self.now.f self.now.of.q self.now.of.p self.now.of.p2 with_step result }
+    {
+        self.f.tag == 8
+            && self.is_replaced(self.f.left, self.of.p)
+            && self.is_replaced(self.f.right, self.of.p2)
+    }
+
+    fn plus_step(&self, part: Run) -> bool
+        requires { RunWithin (length self.now.of.s.now) part }
+        ensures { PartStepIs self.now.of.s.now self.now.f self.now.of.q self.now.of.p part result }
+    {
+        self.f.tag == 9 && self.is_replaced(part, self.of.p)
+    }
+
+    fn tensor_step(&self) -> bool
+        ensures { TwoStepsAre self.now.of.s.now self.now.f self.now.of.q self.now.of.p self.now.of.p2 tensor_step result }
+    {
+        self.f.tag == 6
+            && stands_in(self.of.s, self.f.left, linear(self.of.p))
+            && stands_in(self.of.s, self.f.right, linear(self.of.p2))
+            && bags::same_bag(
+                self.of.s,
+                &[self.f.whole, linear(self.of.p), linear(self.of.p2)],
+                &[self.f.left, self.f.right, linear(self.of.q)],
+            )
+    }
+
+    fn of_course_step(&self) -> bool
+        ensures { StepIs self.now.of.s.now self.now.f self.now.of.q self.now.of.p of_course_step result }
+    {
+        self.f.tag == 11
+            && bags::same_bag(self.of.s, &[linear(self.of.q)], &[self.f.whole])
+            && bags::same_bag(self.of.s, &[linear(self.of.p)], &[self.f.left])
+    }
+
+    fn why_not_step(&self) -> bool
+        ensures { StepIs self.now.of.s.now self.now.f self.now.of.q self.now.of.p why_not_step result }
+    {
+        self.f.tag == 12
+            && bags::same_bag(
+                self.of.s,
+                &[linear(self.of.q)],
+                &[self.f.whole, linear(self.of.p)],
+            )
+            && bags::same_bag(
+                self.of.s,
+                &[unrestricted(self.of.p)],
+                &[plain(self.f.left), unrestricted(self.of.q)],
+            )
+    }
+
+    // The formula is taken out of the unrestricted zone.
+    fn takes_out(&self) -> bool
+        ensures { StepIs self.now.of.s.now self.now.f self.now.of.q self.now.of.p takes_out result }
+    {
+        bags::same_bag(
+            self.of.s,
+            &[unrestricted(self.of.q)],
+            &[plain(self.f.whole), unrestricted(self.of.p)],
+        )
+    }
+
+    // Three rules, each with its own premise's linear zone: one function would only be passed that zone.
+    fn weakening_step(&self) -> bool
+        ensures { StepIs self.now.of.s.now self.now.f self.now.of.q self.now.of.p weakening_step result }
+    {
+        bags::same_bag(self.of.s, &[linear(self.of.p)], &[linear(self.of.q)]) && self.takes_out()
+    }
+
+    fn contraction_step(&self) -> bool
+        ensures { StepIs self.now.of.s.now self.now.f self.now.of.q self.now.of.p contraction_step result }
+    {
+        bags::same_bag(
+            self.of.s,
+            &[linear(self.of.p)],
+            &[self.f.whole, self.f.whole, linear(self.of.q)],
+        ) && self.takes_out()
+    }
+
+    fn dereliction_step(&self) -> bool
+        ensures { StepIs self.now.of.s.now self.now.f self.now.of.q self.now.of.p dereliction_step result }
+    {
+        bags::same_bag(
+            self.of.s,
+            &[linear(self.of.p)],
+            &[self.f.whole, linear(self.of.q)],
+        ) && self.takes_out()
+    }
+
+    // The step is legal with this formula as the principal one, but for the unrestricted zones that it keeps.
+    fn is_legal(&self) -> bool
+        ensures { StepAt self.now.of.s.now self.now.f self.now.of.q self.now.of.p self.now.of.p2 result }
+    {
+        let Ok(rule) = Rule::try_from(self.of.q.rule) else {
+            return false;
+        };
+        match rule {
+            Rule::BottomIntro => self.bottom_step(),
+            Rule::TensorIntro => self.tensor_step(),
+            Rule::ParIntro => self.par_step(),
+            Rule::WithIntro => self.with_step(),
+            Rule::PlusIntroLeft => self.plus_step(self.f.left),
+            Rule::PlusIntroRight => self.plus_step(self.f.right),
+            Rule::OfCourseIntro => self.of_course_step(),
+            Rule::WhyNotIntro => self.why_not_step(),
+            Rule::Weakening => self.weakening_step(),
+            Rule::Contraction => self.contraction_step(),
+            Rule::Dereliction => self.dereliction_step(),
+            _ => false,
+        }
+    }
 }
 
 fn one_premise(s: &[u8], q: Node) -> bool
@@ -287,12 +344,13 @@ fn one_premise(s: &[u8], q: Node) -> bool
     ensures { OnePremise s.now q result }
 {
     let p = tree::node_at(s, q.next);
+    let premises = Premises { s, q, p, p2: p };
     // The rules past WhyNotIntro work on the unrestricted zone.
     let why_not = u8::from(Rule::WhyNotIntro);
     if q.rule > why_not {
-        return some_step(s, q.unrestricted, q, p, p);
+        return premises.some_step(q.unrestricted);
     }
-    (q.rule == why_not || keeps_zone(s, q, p)) && some_step(s, q.linear, q, p, p)
+    (q.rule == why_not || premises.keeps_zone(p)) && premises.some_step(q.linear)
 }
 
 fn two_premises(s: &[u8], q: Node) -> bool
@@ -301,13 +359,14 @@ fn two_premises(s: &[u8], q: Node) -> bool
 {
     let p = tree::node_at(s, q.next);
     let p2 = tree::node_at(s, tree::after_tree(s, q.next));
-    if !keeps_zone(s, q, p) || !keeps_zone(s, q, p2) {
+    let premises = Premises { s, q, p, p2 };
+    if !premises.keeps_zone(p) || !premises.keeps_zone(p2) {
         return false;
     }
     if q.rule == u8::from(Rule::Cut) {
-        cut_step(s, q, p, p2)
+        premises.cut_step()
     } else {
-        some_step(s, q.linear, q, p, p2)
+        premises.some_step(q.linear)
     }
 }
 

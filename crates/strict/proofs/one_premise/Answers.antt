@@ -10,8 +10,8 @@ returns-then-q-why_not c = one_taken c.args.q c.node_at-p.ensures (omega arith) 
 
 pub returns-then-keeps_zone : goal.returns-then-keeps_zone
 returns-then-keeps_zone c = elim c.if-q-why_not-2.branch [
-  | then-q-why_not-2 w ↦ one_moved c.args.q c.node_at-p.ensures (omega arith) (omega arith) c.some_step-then-keeps_zone.ensures
-  | else-q-why_not-2 w ↦ one_kept c.args.q c.node_at-p.ensures (omega arith) (λ e. omega arith) w.keeps_zone.ensures (sym w.value-is ∙ c.if-keeps_zone.true) c.some_step-then-keeps_zone.ensures
+  | then-q-why_not-2 w ↦ one_moved c.args.q c.node_at-p.ensures (omega arith) (omega arith) (rw w.premises-is at c.some_step-then-keeps_zone.ensures)
+  | else-q-why_not-2 w ↦ one_kept c.args.q c.node_at-p.ensures (omega arith) (λ e. omega arith) w.keeps_zone.ensures (sym w.value-is ∙ c.if-keeps_zone.true) (rw w.premises-is at c.some_step-then-keeps_zone.ensures)
 ]
 
 pub returns-else-keeps_zone : goal.returns-else-keeps_zone
