@@ -2,7 +2,7 @@ use native.Mathlib.Omega.{arith}
 use Rattle.std.proofs.Common.{rules}
 use Rattle.held.proofs.TurnSteps.{entered_at, entered_full}
 use Rattle.memory.specs.MeaningLaws.{wf_length}
-use Rattle.memory.proofs.ShapeSteps.{implication_held, spelled, not_spelled, number_fits}
+use Rattle.memory.proofs.ShapeSteps.{implication_held, spelled, not_spelled}
 use Rattle.memory.proofs.shape.spell.Goals as goal
 
 pub slice_bounds-spell_held-end : goal.slice_bounds-spell_held-end
@@ -10,9 +10,6 @@ slice_bounds-spell_held-end c = omega (arith, wf_length _ c.requires.wf)
 
 pub spell_held-requires : goal.spell_held-requires
 spell_held-requires c = implication_held _ _ c.requires
-
-pub overflow_cast-result : goal.overflow_cast-result
-overflow_cast-result c = omega (arith, number_fits (entered_at _ _ c.spell_held.result _ _ c.spell_held.ensures c.in_ok-i.was))
 
 pub returns-in_err-i : goal.returns-in_err-i
 returns-in_err-i c = let h = not_spelled _ _ _ (entered_full _ _ c.spell_held.result _ c.spell_held.ensures c.in_err-i.was) in search rules
