@@ -24,7 +24,7 @@ use Rattle.held.specs.WordsLaws.{extends_refl, extends_trans, keeps}
 use Rattle.held.specs.Turn.{Entered, Refused}
 use Rattle.held.specs.OrderLaws.{le_or_lt}
 use Rattle.enter.specs.Standing.{Enterable, EnteredFrom}
-use Rattle.enter.specs.Lists.{Names, Zone, Zoned, OverAll, ListedAll, Negatable, NegatedAll}
+use Rattle.enter.specs.Lists.{Names, Zone, Zoned, OverAll, ListedAll, Negatable}
 
 -- ---- lists entered one after another
 
@@ -306,13 +306,3 @@ module _ (m₀ numbers₀ : List ℕ) (n : ℕ) (m numbers : List ℕ) (k x : �
           grew = extends_trans w.grew y.grew;
           all = y.all ∙ (ap (λ f. enter f (view m)) turned_here ∙ (ap (enter (get_or turned_list k One)) w.all ∙ sym (enter_all_more turned_list k (view m₀) turned_length)));
         }
-
-pub turning_ends : (m₀ numbers₀ : List ℕ) (n : ℕ) (m numbers : List ℕ) (k : ℕ) → Turning m₀ numbers₀ n m numbers k → n ≤ k → NegatedAll m₀ numbers₀ n m numbers
-turning_ends m₀ numbers₀ n m numbers k w l =
-    let q : k ≡ n = omega (arith, w.few) in
-    record {
-      entered = record { wf = w.wf; grew = w.grew; all = w.all ∙ ap (λ gs. enter_all gs (view m₀)) (take_all k (negations m₀ numbers₀ n) (omega (arith, negations_length m₀ numbers₀ n w.given.room))) };
-      names = record { low = λ j u. w.names.low j (omega arith); here = λ j u. w.names.here j (omega arith) };
-      long = w.long;
-      kept = λ j u. w.kept j (omega arith);
-    }

@@ -33,9 +33,6 @@ wrote_then {out} {out₁} {out₂} {xs} {ys} {to} {n₁} {n₂} a b = record {
 pub wrote_one : (out : List ℕ) (to b : ℕ) → Wrote out to (b ∷ []) (set out to b) (to + 1)
 wrote_one out to b = record { after = refl; written = refl }
 
-pub wrote_two : (out : List ℕ) (to a b : ℕ) → Wrote out to (a ∷ b ∷ []) (set (set out to a) (to + 1) b) (to + 2)
-wrote_two out to a b = record { after = refl; written = rw add-one }
-
 pub wrote_length : {out bs out' : List ℕ} {to next : ℕ} → Wrote out to bs out' next → length out' ≡ length out
 wrote_length {out} {bs} {out'} {to} w = ap length w.written ∙ length-sets out to bs
 
@@ -224,9 +221,6 @@ module _ {m items : List ℕ} {n : ℕ} (g : Items m items n) where
         small = omega (arith, w.small, f.fits);
       }
 
-  pub weighs_end : {k s : ℕ} → k ≤ n → n ≤ k → Weighs m items k s → Weighs m items n s
-  weighs_end {k} h l w = let e : k ≡ n = omega arith in rw e at w
-
   -- the loop of `items_bytes`: the first k items are written
   module _ {out : List ℕ} {to : ℕ} (room : to + length (write_formulas (named m items n)) ≤ length out) where
     pub written_start : Wrote out to (write_formulas (named m items 0)) out to
@@ -253,10 +247,6 @@ module _ {m items : List ℕ} {n : ℕ} (g : Items m items n) where
     pub written_next : {k : ℕ} {out' out'' : List ℕ} {next next' : ℕ} → k < n → Wrote out to (write_formulas (named m items k)) out' next
         → Wrote out' next (write_formula (told m (get_or items k 0))) out'' next' → Wrote out to (write_formulas (named m items (k + 1))) out'' next'
     written_next {k} h w v = wrote_as (wrote_then w v) (sym (bytes_next k h))
-
-    pub written_end : {k : ℕ} {out' : List ℕ} {next : ℕ} → k ≤ n → n ≤ k → Wrote out to (write_formulas (named m items k)) out' next
-        → Wrote out to (write_formulas (named m items n)) out' next
-    written_end {k} h l w = let e : k ≡ n = omega arith in wrote_as w (ap (λ (i : ℕ). write_formulas (named m items i)) e)
 
 -- the first n items as a list of their own
 part_same : (items : List ℕ) (n : ℕ) → n ≤ length items → take (length (take n items)) (take n items) ≡ take n items

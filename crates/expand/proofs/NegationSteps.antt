@@ -32,7 +32,7 @@ use Rattle.held.specs.WordsLaws.{weights, number_once}
 use Rattle.held.specs.Answers.{Field, Next, NumberOf}
 use Rattle.held.proofs.RowSteps.{row_tall, row_wide, row_tall_one, row_wide_one}
 use Rattle.held.proofs.TurnSteps.{leaf_row}
-use Rattle.expand.specs.Negations.{Noted, Table, Above, Negated}
+use Rattle.expand.specs.Negations.{Noted, Table, Above}
 use Rattle.expand.proofs.ByteSteps.{told_make, told_tag, told_left, told_right, tag_low, part_left, part_right}
 
 -- what a look-up answers
@@ -258,13 +258,7 @@ module _ {m table : List ℕ} {x : ℕ} (p : Table m table x × (x < count m)) {
   pub left_in : 6 ≤ t → a < length table
   left_in h = omega (arith, left_low h, p.1, p.0.wf.few, p.0.sized)
 
-  pub right_in : 6 ≤ t → t < 11 → b < length table
-  right_in h k = omega (arith, right_low h k, p.1, p.0.wf.few, p.0.sized)
-
 -- the loop of `negations`: the words below x are filled
-pub table_start : {m table : List ℕ} → Wf m → length table ≡ most → Table m table 0
-table_start wf s = record { wf = wf; sized = s; filled = λ x l. absurd (omega arith) }
-
 pub table_next : {m table : List ℕ} {x r : ℕ} → Table m table x → x < count m → Noted m (negate (told m x)) r → Table m (set table x r) (x + 1)
 table_next {m} {table} {x} {r} t l n = record {
   wf = t.wf;
@@ -279,22 +273,10 @@ table_next {m} {table} {x} {r} t l n = record {
     new = rw (get_or-set_same table x r 0 (omega (arith, t.wf.few, t.sized))) n
 
 -- how far the table is asked for
-pub above_start : (m : List ℕ) → Above m 0 0
-above_start m = record { low = omega arith; above = λ x l e. absurd (omega arith) }
-
 module _ {m : List ℕ} {x top : ℕ} (k : Above m x top) where
-  pub above_other : {t : ℕ} → Field m x 0 t → (t ≡ 10 → ⊥) → Above m (x + 1) top
-  above_other f n = record { low = k.low; above = below_more (λ y. at m y 0 ≡ 10 → at m y 1 < top) x k.above (λ e. absurd (n (f.value ∙ e))) }
-
   module _ {a : ℕ} (f : Field m x 1 a) where
     pub above_raised : {t r : ℕ} → Wf m → x < count m → Field m x 0 t → t ≡ 10 → r ≡ max top (a + 1) → Above m (x + 1) r
     above_raised {t} {r} wf l g e h = record {
       low = omega (arith, k.low, f.value, part_left m x wf l (omega (arith, g.value)));
       above = below_more (λ y. at m y 0 ≡ 10 → at m y 1 < r) x (λ y b d. omega (arith, k.above y b d)) (λ d. omega (arith, f.value));
     }
-
-pub above_end : {m : List ℕ} {x r : ℕ} → x ≤ count m → count m ≤ x → Above m x r → Above m (count m) r
-above_end {m} {x} {r} h l k = let e : x ≡ count m = omega arith in rw e at k
-
-pub table_negated : {m table : List ℕ} {x r : ℕ} → Above m (count m) r → x ≤ r → r ≤ x → Table m table x → Negated m table
-table_negated {m} {table} k h l t = record { wf = t.wf; sized = t.sized; left = λ y b e. t.filled (at m y 1) (omega (arith, k.above y b e)) }

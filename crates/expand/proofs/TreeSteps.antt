@@ -76,9 +76,6 @@ module _ {m : List ℕ} {z : Zones} {w : ℕ} {out : List ℕ} {to : ℕ} (p : H
   pub head_start : to < length out
   head_start = omega (arith, p.room, head_length_is w (meant (told m) z))
 
-  pub count_fits : {c : ℕ} → c ≡ get_or premise_counts (rule_of w) 0 → c ≤ 2
-  count_fits e = omega (arith, premises_few (rule_of w) p.known)
-
   pub linear_room : ZoneRoom m z.linear z.linear_len (set out to (rule_of w)) (to + 1)
   linear_room = record {
     good = linear_items p.sound;
@@ -590,11 +587,6 @@ module _ {m table ws : List ℕ} {z s : Zones} {left at : ℕ} {out : List ℕ} 
                   let d₂ = k₂.of_tree f.tree₂ rest (premise_expands (left - 1) (drop r₁.at ws) y₂ (ap second_of f.takes) (rw d.rest_is at f.expands₂)) in
                   record { wrote = wrote_as (wrote_then wrote (wrote_then d.wrote d₂.wrote)) (sym f.bytes); rest_is = d₂.rest_is }
 
--- of the words that carry a tree, its bytes keep the output's length
-pub written_length : {m ws : List ℕ} {z : Zones} {left at : ℕ} {out : List ℕ} {to : ℕ} {out' : List ℕ} {r : Place} → Carries m ws z left at
-    → OfTree m ws z left at (Written ws out to out' r) → length out' ≡ length out
-written_length k x = wrote_length (x.of_tree k.tree k.rest k.expands).wrote
-
 -- the whole tree counted
 pub counted_long : {m ws : List ℕ} {z : Zones} {left at : ℕ} {r : Place} → OfTree m ws z left at (Counted ws 0 r) → OfTree m ws z left at (Long r.to)
 counted_long x = record {
@@ -628,9 +620,6 @@ module _ {m table ws : List ℕ} {z : Zones} {out : List ℕ} {n : ℕ} (p : Mes
           go t same d =
               let n_is : n ≡ length (write_node t) = p.sized ∙ ap (λ (u : Tree). length (write_node u)) same in
               wrote_then (wrote_one out 0 1) (rw n_is at (wrote_then x d))
-
-      pub message_same_length : length out₂ ≡ length out
-      message_same_length = wrote_length (message_wrote.of_tree p.carries.tree p.carries.rest p.carries.expands)
 
 -- whether the message fits
 module _ {m ws : List ℕ} {z : Zones} {out : List ℕ} {n : ℕ} (x : OfTree m ws z most_levels 0 (Long n)) where

@@ -14,7 +14,6 @@ use Rattle.failures.specs.FailedLaws.{failed_none}
 use Rattle.failures.specs.Records as records
 use Rattle.failures.specs.RecordsLaws.{reset_wf}
 use Rattle.memory.specs.Meaning.{words, formula_words, failure_words, holds, failed, Wf, Emptied, ResetTo}
-use Rattle.memory.specs.MeaningLaws.{wf_length}
 use Rattle.memory.specs.PartsLaws.{Parts, back_lent, front_changed, back_changed}
 
 -- the failures' words, as they are lent and as they are put back
@@ -71,9 +70,3 @@ module _ (m f g : List ℕ) (long : length m ≡ words) where
   reset_whole true true z w = record { done = λ _. (refl, both_reset z w); refused = λ h. absurd (h long) }
   reset_whole true false z w = absurd (w.1 (lent_length z))
   reset_whole false s z w = absurd (z.1 (sym (front_length m (omega arith))))
-
-  pub reset_long : {r : ℕ} → ResetTo m r (put after g) → length (put after g) ≡ length m
-  reset_long z = wf_length (put after g) (z.done long).1.wf ∙ sym long
-
-pub reset_refused : (m : List ℕ) → (length m ≡ words → ⊥) → ResetTo m 12 m
-reset_refused m h = record { done = λ e. absurd (h e); refused = λ _. (refl, refl) }

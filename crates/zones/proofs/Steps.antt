@@ -17,7 +17,7 @@ use lib.Seq.{paste}
 use mir.Val.{bool_byte}
 use Rattle.zones.specs.declared.Zones.{Zones}
 use Rattle.zones.specs.ZonesLaws.{remove_length, remove_at, made}
-use Rattle.zones.specs.Zones.{Fits, Made, Shifted, without, replaced, pushed, only, split, without_unrestricted, pushed_unrestricted, remove, replace, keep, as_number, bit, past, part}
+use Rattle.zones.specs.Zones.{Fits, Made, Shifted, replaced, only, split, remove, replace, keep, as_number, bit, past, part}
 
 -- what `shift_down` copies
 pub shifted : {items r : List ℕ} {i last : ℕ} → i ≤ last → last < length items → length r ≡ length items → r ≡ copy_within items (i + 1) (last + 1) i → Shifted items i last r
@@ -40,9 +40,6 @@ pub record Keeping (side i mask : ℕ) (items : List ℕ) (n : ℕ) (r : List �
   pub high : k < n
   pub done : take to r ++ part side m (drop k (remove i (take n items))) ≡ part side mask (remove i (take n items))
   pub ahead : (j : ℕ) → k ≤ j → get_or r j 0 ≡ get_or items j 0
-
-pub keeping_start : (side i mask : ℕ) (items : List ℕ) (n : ℕ) → 0 < n → Keeping side i mask items n items mask 0 0
-keeping_start side i mask items n h = record { sized = refl; low = omega arith; high = h; done = refl; ahead = λ j h. refl }
 
 keep_take : (b : Bool) (r : List ℕ) (to a : ℕ) (rest : List ℕ) → to < length r → take (to + as_number b) (set r to a) ++ rest ≡ take to r ++ keep b a rest
 keep_take true r to a rest h = rw add-one (ap (λ (l : List ℕ). l ++ rest) (take-suc-set r to a h) ∙ append_assoc (take to r) (a ∷ []) rest)
@@ -105,31 +102,7 @@ take_push items n a h = rw add-one (take-suc-set items n a h)
 take_replace : (items : List ℕ) (n i a : ℕ) → i < n → n ≤ length items → take n (set items i a) ≡ replace i a (take n items)
 take_replace items n i a h g = take-set-lt n items i a h ∙ set_split (take n items) i a (omega (arith, length-take-le n items g))
 
--- the item at place i taken out
-take_removed : {items r : List ℕ} {i n : ℕ} → 1 ≤ n → Shifted items i (n - 1) r → take (n - 1) r ≡ remove i (take n items)
-take_removed {items} {r} {i} {n} h s = let e : suc (n - 1) ≡ n = omega arith in rw e at s.moved
-
 module _ {z : Zones} (f : Fits z) where
-  pub made_pushed : (a : ℕ) → z.linear_len + z.unrestricted_len < 31
-      → Made z (pushed a)
-      record { linear = set z.linear z.linear_len a; linear_len = z.linear_len + 1; unrestricted = z.unrestricted; unrestricted_len = z.unrestricted_len }
-  made_pushed a h =
-      made
-      record { few = omega arith; linear_sized = length-set z.linear _ a ∙ f.linear_sized; unrestricted_sized = f.unrestricted_sized }
-      (pushed a)
-      (take_push z.linear z.linear_len a (omega (arith, f.linear_sized)))
-      refl
-
-  pub made_pushed_unrestricted : (a : ℕ) → z.linear_len + z.unrestricted_len < 31
-      → Made z (pushed_unrestricted a)
-      record { linear = z.linear; linear_len = z.linear_len; unrestricted = set z.unrestricted z.unrestricted_len a; unrestricted_len = z.unrestricted_len + 1 }
-  made_pushed_unrestricted a h =
-      made
-      record { few = omega arith; linear_sized = f.linear_sized; unrestricted_sized = length-set z.unrestricted _ a ∙ f.unrestricted_sized }
-      (pushed_unrestricted a)
-      refl
-      (take_push z.unrestricted z.unrestricted_len a (omega (arith, f.unrestricted_sized)))
-
   pub made_replaced : (i a : ℕ) → i < z.linear_len
       → Made z (replaced i a)
       record { linear = set z.linear i a; linear_len = z.linear_len; unrestricted = z.unrestricted; unrestricted_len = z.unrestricted_len }
@@ -149,26 +122,6 @@ module _ {z : Zones} (f : Fits z) where
       (only a)
       (take-suc-set z.linear zero a (omega (arith, f.linear_sized)))
       refl
-
-  pub made_without : {i : ℕ} {r : List ℕ} → i < z.linear_len → Shifted z.linear i (z.linear_len - 1) r
-      → Made z (without i)
-      record { linear = r; linear_len = z.linear_len - 1; unrestricted = z.unrestricted; unrestricted_len = z.unrestricted_len }
-  made_without {i} h s =
-      made
-      record { few = omega (arith, f.few); linear_sized = s.sized ∙ f.linear_sized; unrestricted_sized = f.unrestricted_sized }
-      (without i)
-      (take_removed (omega arith) s)
-      refl
-
-  pub made_without_unrestricted : {i : ℕ} {r : List ℕ} → i < z.unrestricted_len → Shifted z.unrestricted i (z.unrestricted_len - 1) r
-      → Made z (without_unrestricted i)
-      record { linear = z.linear; linear_len = z.linear_len; unrestricted = r; unrestricted_len = z.unrestricted_len - 1 }
-  made_without_unrestricted {i} h s =
-      made
-      record { few = omega (arith, f.few); linear_sized = f.linear_sized; unrestricted_sized = s.sized ∙ f.unrestricted_sized }
-      (without_unrestricted i)
-      refl
-      (take_removed (omega arith) s)
 
   pub made_split : {side i mask a : ℕ} (r : Zones) {m to k : ℕ} → i < z.linear_len → Keeping side i mask z.linear z.linear_len r.linear m to k → z.linear_len ≤ k + 1
       → r.unrestricted ≡ z.unrestricted → r.unrestricted_len ≡ z.unrestricted_len
