@@ -531,8 +531,8 @@ module _ {m s : List ℕ} {at : ℕ} {z : Zones} {to : ℕ} (g : Growing m s at 
                       go (one_premise k) = absurd (more (sym (counted refl) ∙ k.counted))
                       go (two_premises k) = sym (counted refl) ∙ k.counted
 
-                  pub grows_first : {k : Stop} → a ≡ Err k → Grows m s at z out to a m₂ out₂
-                  grows_first stopped = record {
+                  pub grows_first : ((j k : ℕ) → a ≡ Whole j k → ⊥) → Grows m s at z out to a m₂ out₂
+                  grows_first stops = record {
                     within = within_from (length s) at n.next a below_inside.0 first.within;
                     wf = first.wf;
                     grew = extends_trans sp.grew first.grew;
@@ -540,9 +540,6 @@ module _ {m s : List ℕ} {at : ℕ} {z : Zones} {to : ℕ} (g : Growing m s at 
                     is = λ t stands fits. go t (node_stands node_is t stands fits);
                   }
                     where
-                      stops : (i j : ℕ) → a ≡ Whole i j → ⊥
-                      stops i j whole = let o : ◌≡◌ {A = ℕ} 0 1 = cc in omega arith
-
                       go : (t : Short) → StandsAs s at n t → GrownHere m at z t out to a m₂ out₂
                       go t x =
                           let two = premised_two taken (counted two_are) in
@@ -554,6 +551,9 @@ module _ {m s : List ℕ} {at : ℕ} {z : Zones} {to : ℕ} (g : Growing m s at 
                           (expanded x u.is two.premises_are
                           (expand_first u.first two.first (view m₁) (u.second ▸ □) (two.second ∷ []) (not_made y stops deeper) first_is))
                           (told_one (node x.named (concluded (sequent m z))) y.0 deeper.told (λ t₁ k. absurd (stops _ _ k.answer)))
+
+                  pub grows_stopped : {k : Stop} → a ≡ Err k → Grows m s at z out to a m₂ out₂
+                  grows_stopped stopped = grows_first (λ i j whole. let o : ◌≡◌ {A = ℕ} 0 1 = cc in omega arith)
 
                   module _ {next second : ℕ} (goes_on : a ≡ Whole next second) where
                     next_inside : ((n.next ≤ next) × (next ≤ length s)) × ((3 ≤ second) × (second ≤ too_long))

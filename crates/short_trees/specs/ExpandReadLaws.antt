@@ -11,7 +11,7 @@ use Rattle.logic.specs.Answer.{wrong_number, wrong_length, wrong_tag, too_high, 
 use Rattle.wire.specs.Write.{two_bytes, write_node, message, write_tree}
 use Rattle.wire.specs.Read as wire
 use Rattle.formula.specs.Answers.{coded}
-use Rattle.formula.specs.declared.Refusal.TheVariants.{OutputShort}
+use Rattle.formula.specs.declared.Refusal.TheVariants.{HeldFull, TooMany, OutputShort}
 use Rattle.held.specs.Words.{view}
 use Rattle.held.specs.WordsLaws.{extends_trans}
 use Rattle.zones.specs.declared.Zones.{Zones}
@@ -36,7 +36,7 @@ use Rattle.short_trees.specs.Promise.{limits, expanding}
 use Rattle.short_trees.specs.Steps.{grow_failed, Readable, DoneAs, Done}
 use Rattle.short_trees.specs.HeldLaws.{closed_view, held_fits}
 use Rattle.short_trees.specs.AnswersLaws.{done_refused, done_mismatch, done_short, done_written, unwritten, front_room, front_kept, message_stored}
-use Rattle.short_trees.specs.declared.Failure.TheVariants.{Refused}
+use Rattle.short_trees.specs.declared.Failure.TheVariants.{Mismatch, Refused}
 
 -- ---- the result, by the walk's answer
 
@@ -108,6 +108,15 @@ module _ {m s : List ℕ} {z : Zones} (x : Readable expanding m s z) where
         go stop.Full a held h = done_refused expanding out held held_full h
         go stop.Mismatch a held h = done_mismatch expanding out held h
         go stop.TooMany a held h = done_refused expanding out held too_many h
+
+    pub expand_full : r ≡ Err stop.Full → Done expanding m s z out (Err (Refused HeldFull)) m₁ (part ++ out)
+    expand_full e = expand_stopped stop.Full e
+
+    pub expand_crowded : r ≡ Err stop.TooMany → Done expanding m s z out (Err (Refused TooMany)) m₁ (part ++ out)
+    expand_crowded e = expand_stopped stop.TooMany e
+
+    pub expand_mismatch : r ≡ Err stop.Mismatch → Done expanding m s z out (Err Mismatch) m₁ (part ++ out)
+    expand_mismatch e = expand_stopped stop.Mismatch e
 
     -- the tree is so long, with version and length
     module _ {w : Grown} (e : r ≡ Ok w) where

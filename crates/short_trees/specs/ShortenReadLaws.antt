@@ -226,6 +226,12 @@ module _ {m s : List ℕ} {z : Zones} (x : Readable shortening m s z) where
                 go stop.Full t held h = done_refused shortening out held held_full h
                 go stop.Mismatch t held h = done_mismatch shortening out held h
 
+            pub shorten_over : r ≡ Err stop.Full → Done shortening m s z out (Err (Refused HeldFull)) m₂ (part ++ out)
+            shorten_over e = shorten_stopped stop.Full e
+
+            pub shorten_mismatch : r ≡ Err stop.Mismatch → Done shortening m s z out (Err Mismatch) m₂ (part ++ out)
+            shorten_mismatch e = shorten_stopped stop.Mismatch e
+
             -- the short tree is so long, with version and length
             module _ {w : Shrunk} (e : r ≡ Ok w) where
               abbrev to : ℕ

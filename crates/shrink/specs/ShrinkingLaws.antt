@@ -648,7 +648,7 @@ module _ {m s : List ℕ} {at : ℕ} {z : Zones} {out : List ℕ} {to : ℕ} (as
               (premise_as first_made spelled held below)));
         }
 
-        pub shrinks_failed : {f : Stop} → r₁ ≡ Err f → Shrinks m s at z out to r₁ m₂ out₂
+        pub shrinks_failed : ((next to' : ℕ) → r₁ ≡ Whole next to' → ⊥) → Shrinks m s at z out to r₁ m₂ out₂
         shrinks_failed h = record {
           within = within_node;
           wf = below.wf;
@@ -657,9 +657,12 @@ module _ {m s : List ℕ} {at : ℕ} {z : Zones} {out : List ℕ} {to : ℕ} (as
           is =
               each_tree found l (λ ts st.
               node_as found l put ts st
-              (first_tree (view m) (premises_of l.taken.named place mask (sequent m z)) ts none_failed st.fitted st.premises_stand st.premises_fit (err_apart h)
+              (first_tree (view m) (premises_of l.taken.named place mask (sequent m z)) ts none_failed st.fitted st.premises_stand st.premises_fit h
               (premise_as first_made spelled held below)));
         }
+
+        pub shrinks_stopped : {f : Stop} → r₁ ≡ Err f → Shrinks m s at z out to r₁ m₂ out₂
+        shrinks_stopped h = shrinks_failed (err_apart h)
 
         module _ (more : k ≡ 1 → ⊥) {next second : ℕ} (whole : r₁ ≡ Whole next second) where
           after_first : Within (length s) n.next written (Whole next second)

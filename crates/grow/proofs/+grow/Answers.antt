@@ -2,7 +2,7 @@ use borrow.Author.Rules.{rules}
 use Rattle.std.proofs.lemmas.Bool.{not_from_true, not_from_false}
 use mathlib.Core.Path.{◌∙◌}
 use native.Mathlib.Omega.{arith}
-use Rattle.grow.specs.GrowingLaws.{grows_full, meant, grows_mismatch, grows_crowded, putting, word_known, grows_leaf, first_step, first_falls, first_growing, grows_one, grows_first, second_step, second_falls, second_growing, grows_two}
+use Rattle.grow.specs.GrowingLaws.{grows_full, meant, grows_mismatch, grows_crowded, putting, word_known, grows_leaf, first_step, first_falls, first_growing, grows_one, grows_stopped, second_step, second_falls, second_growing, grows_two}
 use Rattle.grow.proofs.+grow.Goals as goal
 
 pub spell_first-requires : goal.spell_first-requires
@@ -84,7 +84,7 @@ pub shape_of-mem-in_err-left : goal.shape_of-mem-in_err-left
 shape_of-mem-in_err-left t c = c.grow-first.ensures.grew.agree.long ∙ c.spell_first.ensures.grew.agree.long
 
 pub returns-in_err-left : goal.returns-in_err-left
-returns-in_err-left t c = let h = grows_first c.requires c.spell_first.ensures
+returns-in_err-left t c = let h = grows_stopped c.requires c.spell_first.ensures
     c.in-Some.is c.node_at-node.ensures c.may_take-takes.ensures
     (not_from_true _ c.if-not-takes.false) c.is_crowded-crowded.ensures c.if-crowded.false
     c.node_word-w.ensures c.put_head-written.ensures

@@ -1,7 +1,7 @@
 use mathlib.Core.Path.{refl}
 use Rattle.std.proofs.Common.{rules}
 use Rattle.least.specs.FindingLaws.{word_rule, word_first}
-use Rattle.shrink.specs.ShrinkingLaws.{before_end, node_inside, least_at, least_nowhere, number_word, node_room, word_room, falls_first, shrinks_end, shrinks_nowhere, shrinks_leaf, shrinks_first_full, first_shrinking, shrinks_one, shrinks_failed, second_stepping, shrinks_second_full, falls_second, second_shrinking, shrinks_two}
+use Rattle.shrink.specs.ShrinkingLaws.{before_end, node_inside, least_at, least_nowhere, number_word, node_room, word_room, falls_first, shrinks_end, shrinks_nowhere, shrinks_leaf, shrinks_first_full, first_shrinking, shrinks_one, shrinks_stopped, second_stepping, shrinks_second_full, falls_second, second_shrinking, shrinks_two}
 use Rattle.shrink.proofs.+shrink.Goals as goal
 
 pub returns-then-at-s : goal.returns-then-at-s
@@ -65,13 +65,13 @@ pub returns-then-n-eq1 : goal.returns-then-n-eq1
 returns-then-n-eq1 t c = shrinks_one c.requires (before_end c.requires c.if-at-s.false) c.node_at-node.ensures (least_at c.least_step.ensures c.in-Some.is) c.put_node-written.ensures (number_word (least_at c.least_step.ensures c.in-Some.is) c.from.ensures c.node_word-w.ensures) c.premises-n.ensures c.if-n-eq0.false c.first_premise.ensures c.spell_first.ensures c.in-Some-spell_first.is c.shrink-first.ensures c.if-n-eq1.true
 
 pub shape_of-mem-in_err-left : goal.shape_of-mem-in_err-left
-shape_of-mem-in_err-left t c = (shrinks_failed c.requires (before_end c.requires c.if-at-s.false) c.node_at-node.ensures (least_at c.least_step.ensures c.in-Some.is) c.put_node-written.ensures (number_word (least_at c.least_step.ensures c.in-Some.is) c.from.ensures c.node_word-w.ensures) c.premises-n.ensures c.if-n-eq0.false c.first_premise.ensures c.spell_first.ensures c.in-Some-spell_first.is c.shrink-first.ensures c.in_err-left.was).grew.agree.long
+shape_of-mem-in_err-left t c = (shrinks_stopped c.requires (before_end c.requires c.if-at-s.false) c.node_at-node.ensures (least_at c.least_step.ensures c.in-Some.is) c.put_node-written.ensures (number_word (least_at c.least_step.ensures c.in-Some.is) c.from.ensures c.node_word-w.ensures) c.premises-n.ensures c.if-n-eq0.false c.first_premise.ensures c.spell_first.ensures c.in-Some-spell_first.is c.shrink-first.ensures c.in_err-left.was).grew.agree.long
 
 pub shape_of-out-in_err-left : goal.shape_of-out-in_err-left
-shape_of-out-in_err-left t c = (shrinks_failed c.requires (before_end c.requires c.if-at-s.false) c.node_at-node.ensures (least_at c.least_step.ensures c.in-Some.is) c.put_node-written.ensures (number_word (least_at c.least_step.ensures c.in-Some.is) c.from.ensures c.node_word-w.ensures) c.premises-n.ensures c.if-n-eq0.false c.first_premise.ensures c.spell_first.ensures c.in-Some-spell_first.is c.shrink-first.ensures c.in_err-left.was).long
+shape_of-out-in_err-left t c = (shrinks_stopped c.requires (before_end c.requires c.if-at-s.false) c.node_at-node.ensures (least_at c.least_step.ensures c.in-Some.is) c.put_node-written.ensures (number_word (least_at c.least_step.ensures c.in-Some.is) c.from.ensures c.node_word-w.ensures) c.premises-n.ensures c.if-n-eq0.false c.first_premise.ensures c.spell_first.ensures c.in-Some-spell_first.is c.shrink-first.ensures c.in_err-left.was).long
 
 pub returns-in_err-left : goal.returns-in_err-left
-returns-in_err-left t c = let h = shrinks_failed c.requires (before_end c.requires c.if-at-s.false) c.node_at-node.ensures (least_at c.least_step.ensures c.in-Some.is) c.put_node-written.ensures (number_word (least_at c.least_step.ensures c.in-Some.is) c.from.ensures c.node_word-w.ensures) c.premises-n.ensures c.if-n-eq0.false c.first_premise.ensures c.spell_first.ensures c.in-Some-spell_first.is c.shrink-first.ensures c.in_err-left.was in search rules
+returns-in_err-left t c = let h = shrinks_stopped c.requires (before_end c.requires c.if-at-s.false) c.node_at-node.ensures (least_at c.least_step.ensures c.in-Some.is) c.put_node-written.ensures (number_word (least_at c.least_step.ensures c.in-Some.is) c.from.ensures c.node_word-w.ensures) c.premises-n.ensures c.if-n-eq0.false c.first_premise.ensures c.spell_first.ensures c.in-Some-spell_first.is c.shrink-first.ensures c.in_err-left.was in search rules
 
 pub second_premise-requires : goal.second_premise-requires
 second_premise-requires t c = second_stepping c.requires (before_end c.requires c.if-at-s.false) c.node_at-node.ensures (least_at c.least_step.ensures c.in-Some.is) c.put_node-written.ensures (number_word (least_at c.least_step.ensures c.in-Some.is) c.from.ensures c.node_word-w.ensures) c.premises-n.ensures c.if-n-eq0.false c.first_premise.ensures c.spell_first.ensures c.in-Some-spell_first.is c.shrink-first.ensures c.if-n-eq1.false c.in_ok-left.was
