@@ -33,6 +33,7 @@ fn put_formula(rt: &impl Print, formula: &[u8], text: &mut [u8]) -> io::Result<(
     rt.write_all(&text[..n])
 }
 
+// No index loop: a formula's end is where the next begins.
 fn put_zone(rt: &impl Print, s: &[u8], zone: Span, text: &mut [u8]) -> io::Result<()>
     requires { (zone.start ≤ zone.end) × (zone.end ≤ length s.now) }
 {
@@ -77,6 +78,7 @@ fn put_tree(rt: &impl Print, s: &[u8], text: &mut [u8]) -> io::Result<()> {
     awaited[0] = 1;
     let mut level = 0;
     let mut at = tree::after(s, 0, 3);
+    // No index loop: a turn reads a node or leaves a level.
     while at < s.len() {
         if awaited[level] == 0 {
             if level == 0 {

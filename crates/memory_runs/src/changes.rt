@@ -22,6 +22,7 @@ fn digit(input: &mut impl Read) -> usize
     }
 }
 
+// Digit by digit: so its bound is seen without an invariant.
 fn number(input: &mut impl Read) -> usize
     ensures { result < 100000 }
 {

@@ -46,6 +46,7 @@ pub fn large_buffer() -> [u8; 65536]
 }
 
 // The input's next bytes, to the front of `buf`, and how many there were: fewer than `buf` holds only where the input ends. A read that fails counts as the end.
+// No index loop: a turn goes on by as many bytes as were read.
 fn read_full(input: &mut impl Read, buf: &mut [u8]) -> usize
     ensures { IsPrefixLen result buf.new }
 {

@@ -8,6 +8,7 @@ ghost use Rattle.vakelumba.specs.Judged.{fault_at, verdict};
 use verify::Rejected;
 
 // Where a tree is wrong: the rule's number, the node's number in preorder, the steps below the root, and how many premises were expected and got. All are 0 where the answer has none.
+// A record of C, so no enum.
 #[repr(C)]
 #[derive(Clone, Copy, Debug, PartialEq, Eq)]
 pub struct Fault {
