@@ -4,10 +4,12 @@ ghost use Rattle.logic.specs.Formula.{Atom};
 ghost use Rattle.zones.specs.Zones.{Fits};
 ghost use Rattle.memory.specs.Meaning.{Wf, StandsIn, held_count};
 ghost use Rattle.expand.specs.Short as short;
+ghost use Rattle.rule.specs.Numbers as rules;
 ghost use Rattle.search.specs.Plans.{PlannedAt, Planned, Focused, linear_formula, number_of, long, Premise};
 
 use super::Prover;
 use memory::shape::{Shape, shape_at};
+use rule::Rule;
 use zones::Zones;
 
 // search.rs: `prove_async`: the first decomposable formula from the left, its place and its parts.
@@ -115,14 +117,15 @@ pub enum Exponential {
     Weakening,
 }
 
-// Document 01's number of the rule.
-pub fn number_of(rule: Exponential) -> u64
-    ensures { result ≡ number_of rule }
-{
-    match rule {
-        Exponential::Dereliction => 14,
-        Exponential::Contraction => 13,
-        Exponential::Weakening => 12,
+impl From<Exponential> for Rule {
+    ghost from_gives = { λ exponential rule. rules.number_of rule ≡ number_of exponential };
+
+    fn from(exponential: Exponential) -> Rule {
+        match exponential {
+            Exponential::Dereliction => Rule::Dereliction,
+            Exponential::Contraction => Rule::Contraction,
+            Exponential::Weakening => Rule::Weakening,
+        }
     }
 }
 
@@ -152,11 +155,11 @@ pub fn premise(rule: Exponential, z: Zones, i: usize) -> Zones
 }
 
 // A node's word: the rule's number, the place of the principal formula in its zone, the mask. As step's `node_word`: neither crate uses the other.
-pub fn word(rule: u64, place: usize, mask: usize) -> u64
-    requires { (rule < 32) × ((place < 32) × (mask < 1073741824)) }
-    ensures { result ≡ short.word rule place mask }
+pub fn word(rule: Rule, place: usize, mask: usize) -> u64
+    requires { (place < 32) × (mask < 1073741824) }
+    ensures { result ≡ short.word (rules.number_of rule) place mask }
 {
-    rule + 32 * (place as u64) + 1024 * (mask as u64)
+    u64::from(u8::from(rule)) + 32 * (place as u64) + 1024 * (mask as u64)
 }
 
 // How many masks there are over n items.

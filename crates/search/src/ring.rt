@@ -8,12 +8,13 @@ ghost use Rattle.search.specs.Contract.{Leaf, FiledOr, Ready, Visits, Decomposes
 
 use super::counters::Counters;
 use super::plan::{
-    Exponential, Focus, Plan, first_plan, focus_on, masks_over, number_of, premise, too_long, word,
+    Exponential, Focus, Plan, first_plan, focus_on, masks_over, premise, too_long, word,
 };
 use super::{Outcome, Prover};
 use formula::Refusal;
 use memory::failed::{known, record_failure};
 use memory::shape::spell;
+use rule::Rule;
 use zones::Zones;
 
 // Where a visit stands: how many depths are left, its depth, and the next free word of the work slice. The counters stay beside it: each call answers new ones. Memory and work stay two
@@ -116,20 +117,28 @@ impl Prover {
                     return Outcome::Refused(Refusal::TooMany, c);
                 }
                 let y = z.without(i).pushed(a).pushed(b);
-                self.under(y, word(5, i, 0), spot, c, mem, work)
+                self.under(y, word(Rule::ParIntro, i, 0), spot, c, mem, work)
             }
             Plan::Bottom(i) => {
                 let y = z.without(i);
-                self.under(y, word(3, i, 0), spot, c, mem, work)
+                self.under(y, word(Rule::BottomIntro, i, 0), spot, c, mem, work)
             }
-            Plan::Top(i) => leaf(word(6, i, 0), spot.at, c, work),
+            Plan::Top(i) => leaf(word(Rule::TopIntro, i, 0), spot.at, c, work),
             Plan::With(i, a, b) => {
                 let y = z.without(i);
-                self.both(y.pushed(a), y.pushed(b), word(7, i, 0), spot, c, mem, work)
+                self.both(
+                    y.pushed(a),
+                    y.pushed(b),
+                    word(Rule::WithIntro, i, 0),
+                    spot,
+                    c,
+                    mem,
+                    work,
+                )
             }
             Plan::WhyNot(i, a) => {
                 let y = z.without(i).pushed_unrestricted(a);
-                self.under(y, word(11, i, 0), spot, c, mem, work)
+                self.under(y, word(Rule::WhyNotIntro, i, 0), spot, c, mem, work)
             }
             Plan::Lolli(i, x) => self.spelled(z, i, x, spot, c, mem, work),
             Plan::Rest => self.prove_sync(z, spot, c, mem, work),
@@ -228,11 +237,18 @@ impl Prover {
     {
         let f = focus_on(mem, z, i);
         match f {
-            Focus::Axiom => leaf(0, spot.at, c, work),
-            Focus::One => leaf(2, spot.at, c, work),
+            Focus::Axiom => leaf(word(Rule::Axiom, 0, 0), spot.at, c, work),
+            Focus::One => leaf(word(Rule::OneIntro, 0, 0), spot.at, c, work),
             Focus::Tensor(a, b) => self.masks(z, i, a, b, spot, c, mem, work),
             Focus::Plus(a, b) => self.plus(z, i, a, b, spot, c, mem, work),
-            Focus::OfCourse(a) => self.under(z.only(a), word(10, i, 0), spot, c, mem, work),
+            Focus::OfCourse(a) => self.under(
+                z.only(a),
+                word(Rule::OfCourseIntro, i, 0),
+                spot,
+                c,
+                mem,
+                work,
+            ),
             Focus::Nothing => Outcome::Nothing(c),
         }
     }
@@ -259,7 +275,7 @@ impl Prover {
             let r = self.both(
                 z.left_part(i, m, a),
                 z.right_part(i, m, b),
-                word(4, i, m),
+                word(Rule::TensorIntro, i, m),
                 spot,
                 c1,
                 mem,
@@ -290,11 +306,25 @@ impl Prover {
         requires { (Ready 1 z (spot.depth + (spot.left + 1)) spot.at self c mem.old work.old) × Two Plus mem.old z i a b }
         ensures { Pluses self spot.left spot.depth z spot.at c mem.old work.old result mem.new work.new i a b }
     {
-        let r = self.under(z.replaced(i, a), word(8, i, 0), spot, c, mem, work);
+        let r = self.under(
+            z.replaced(i, a),
+            word(Rule::PlusIntroLeft, i, 0),
+            spot,
+            c,
+            mem,
+            work,
+        );
         let Outcome::Nothing(c1) = r else {
             return r;
         };
-        self.under(z.replaced(i, b), word(9, i, 0), spot, c1, mem, work)
+        self.under(
+            z.replaced(i, b),
+            word(Rule::PlusIntroRight, i, 0),
+            spot,
+            c1,
+            mem,
+            work,
+        )
     }
 
     // `prove_sync` at the unrestricted zone: Dereliction over the whole zone, then the other two.
@@ -377,7 +407,7 @@ impl Prover {
         }
         self.under(
             premise(rule, z, i),
-            word(number_of(rule), i, 0),
+            word(Rule::from(rule), i, 0),
             spot,
             c,
             mem,

@@ -1,4 +1,4 @@
-use mathlib.Core.Path.{refl, subst}
+use mathlib.Core.Path.{subst}
 use native.Mathlib.Omega.{arith}
 use borrow.Author.Rules.{rules}
 use Rattle.search.specs.Plans.{Planned, Focused}
@@ -44,7 +44,7 @@ pub masks-loop-m-init : goal.masks-loop-m-init
 masks-loop-m-init t c = splitting_starts c.args.spot.left c.args.spot.depth c.requires.0 c.requires.1 c.masks_over-n.ensures
 
 pub masks-word-requires : goal.masks-word-requires
-masks-word-requires t c = (omega arith, (place_low c.args.spot.left c.args.spot.depth c.requires.0 c.requires.1.place, omega (arith, c.masks_over-n.ensures, pow_small (c.args.z.linear_len - 1) (omega (arith, c.requires.0.zones.fits.few)))))
+masks-word-requires t c = (place_low c.args.spot.left c.args.spot.depth c.requires.0 c.requires.1.place, omega (arith, c.masks_over-n.ensures, pow_small (c.args.z.linear_len - 1) (omega (arith, c.requires.0.zones.fits.few))))
 
 pub masks-both-r-requires : goal.masks-both-r-requires
 masks-both-r-requires t c = (omega arith, (ready_zones (ready_after c.requires.0 c.loop-m.invariant.kept) (stands_later c.loop-m.invariant.kept.grew (stands_made c.requires.0.zones c.left_part.ensures c.requires.1.left)), stands_later c.loop-m.invariant.kept.grew (stands_made c.requires.0.zones c.right_part.ensures c.requires.1.right)))
@@ -130,10 +130,10 @@ pub prove_async-returns-in-Rest : goal.prove_async-returns-in-Rest
 prove_async-returns-in-Rest t c = on_rest c.args.spot.left c.args.spot.depth c.requires (subst (Planned c.args.mem.now c.args.z) c.in-Rest.is c.first_plan-p.ensures) c.prove_sync.ensures
 
 pub prove_focused-returns-in-Axiom : goal.prove_focused-returns-in-Axiom
-prove_focused-returns-in-Axiom t c = on_axiom c.args.spot.left c.args.spot.depth c.requires.0 c.requires.1 (subst (Focused c.args.mem.now c.args.z c.args.i) c.in-Axiom.is c.focus_on-f.ensures) refl c.leaf.ensures
+prove_focused-returns-in-Axiom t c = on_axiom c.args.spot.left c.args.spot.depth c.requires.0 c.requires.1 (subst (Focused c.args.mem.now c.args.z c.args.i) c.in-Axiom.is c.focus_on-f.ensures) c.word.ensures c.leaf.ensures
 
 pub prove_focused-returns-in-One : goal.prove_focused-returns-in-One
-prove_focused-returns-in-One t c = on_one c.args.spot.left c.args.spot.depth c.requires.0 c.requires.1 (subst (Focused c.args.mem.now c.args.z c.args.i) c.in-One.is c.focus_on-f.ensures) refl c.leaf-in-One.ensures
+prove_focused-returns-in-One t c = on_one c.args.spot.left c.args.spot.depth c.requires.0 c.requires.1 (subst (Focused c.args.mem.now c.args.z c.args.i) c.in-One.is c.focus_on-f.ensures) c.word-in-One.ensures c.leaf-in-One.ensures
 
 pub prove_focused-returns-in-Tensor : goal.prove_focused-returns-in-Tensor
 prove_focused-returns-in-Tensor t c = on_tensor c.args.spot.left c.args.spot.depth c.requires.0 c.requires.1 (subst (Focused c.args.mem.now c.args.z c.args.i) c.in-Tensor.is c.focus_on-f.ensures) c.masks.ensures
@@ -142,7 +142,7 @@ pub prove_focused-returns-in-Plus : goal.prove_focused-returns-in-Plus
 prove_focused-returns-in-Plus t c = on_plus c.args.spot.left c.args.spot.depth c.requires.0 c.requires.1 (subst (Focused c.args.mem.now c.args.z c.args.i) c.in-Plus.is c.focus_on-f.ensures) c.plus.ensures
 
 pub prove_focused-returns-in-OfCourse : goal.prove_focused-returns-in-OfCourse
-prove_focused-returns-in-OfCourse t c = on_of_course c.args.spot.left c.args.spot.depth c.requires.0 c.requires.1 (subst (Focused c.args.mem.now c.args.z c.args.i) c.in-OfCourse.is c.focus_on-f.ensures) c.only.ensures c.word.ensures c.under.ensures
+prove_focused-returns-in-OfCourse t c = on_of_course c.args.spot.left c.args.spot.depth c.requires.0 c.requires.1 (subst (Focused c.args.mem.now c.args.z c.args.i) c.in-OfCourse.is c.focus_on-f.ensures) c.only.ensures c.word-in-OfCourse.ensures c.under.ensures
 
 pub prove_sync-returns-in_default : goal.prove_sync-returns-in_default
 prove_sync-returns-in_default t c = sync_stops c.args.spot.left c.args.spot.depth c.requires c.positives-a.ensures (not_nothing _ c.in_default.not-Nothing)
@@ -163,7 +163,7 @@ pub taken-returns-then-too_long : goal.taken-returns-then-too_long
 taken-returns-then-too_long t c = taken_long c.args.rule c.args.spot.left c.args.spot.depth c.requires.0 c.requires.1 c.too_long.ensures c.if-too_long.true
 
 pub taken-returns : goal.taken-returns
-taken-returns t c = taken_under c.args.rule c.args.spot.left c.args.spot.depth c.requires.0 c.requires.1 c.premise.ensures c.number_of.ensures c.word.ensures c.under.ensures
+taken-returns t c = taken_under c.args.rule c.args.spot.left c.args.spot.depth c.requires.0 c.requires.1 c.premise.ensures c.from.ensures c.word.ensures c.under.ensures
 
 pub under-visit-a-requires : goal.under-visit-a-requires
 under-visit-a-requires t c = (omega (arith, few_lollis c.args.mem.now c.requires.zones.fits), ready_premise c.requires _ (omega arith))
