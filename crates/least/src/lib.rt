@@ -7,9 +7,10 @@ ghost use Rattle.step.specs.Taking.{Taken};
 ghost use Rattle.least.specs.Finding.{Follows, FitsAt, Placing, PlaceFound, NodeInside, LeastFor};
 
 use expand::steps::{first_premise, premises, second_premise};
+use rule::Rule;
 use shown::is_shown;
 use split::least_tensor;
-use step::{DERELICTION, TENSOR_INTRO, is_crowded, may_take, node_word};
+use step::{is_crowded, may_take, node_word};
 use tree::{Node, after_tree};
 use zones::Zones;
 
@@ -70,13 +71,13 @@ pub fn least_step(mem: &[u16], z: Zones, s: &[u8], node: Node) -> Option<(usize,
 {
     let rule = usize::from(node.rule);
     // The last rule by number that has a short form.
-    if rule > DERELICTION {
+    if node.rule > u8::from(Rule::Dereliction) {
         return None;
     }
     if node.premises != premises(node_word(rule, 0, 0)) {
         return None;
     }
-    if rule == TENSOR_INTRO {
+    if node.rule == u8::from(Rule::TensorIntro) {
         return least_tensor(mem, z, s, node.next);
     }
     least_place(mem, z, rule, s, node.next)

@@ -17,7 +17,7 @@ use Rattle.logic.specs.Parts.{tag_of, name_of, is_literal, make}
 use Rattle.logic.proofs.PartsLaws.{tag_make, name_make}
 use Rattle.logic.specs.Sequent.{Sequent, count}
 use Rattle.logic.specs.Built.{decomposable}
-use Rattle.logic.specs.Tree.{Rule}
+use Rattle.logic.specs.Tree.{Rule, Axiom, Cut, OneIntro, BottomIntro, TensorIntro, ParIntro, TopIntro, WithIntro, PlusIntroLeft, PlusIntroRight, OfCourseIntro, WhyNotIntro, Weakening, Contraction, Dereliction, FocusPositive, FocusNegative, Blur}
 use Rattle.tree.specs.Places.{rule_number}
 use Rattle.held.specs.SignsLaws.{node_make}
 use Rattle.held.specs.Words as words
@@ -357,6 +357,31 @@ asked_of {m} {z} {rule} {place} {mask} k n l o e = record {
 asked_none : {m : List ℕ} {z : Zones} {rule place mask : ℕ} → ((r : Rule) → rule ≡ rule_number r → may_take r place mask (sequent m z) ≡ false)
     → Asked m z rule place mask false
 asked_none h = record { is = λ r n. sym (h r n); some = λ e. absurd (false≢true e) }
+
+-- past the rules' numbers there is no rule
+rule_low : (r : Rule) → rule_number r < 18
+unfolding rule_number
+rule_low Axiom = omega arith
+rule_low (Cut c) = omega arith
+rule_low OneIntro = omega arith
+rule_low BottomIntro = omega arith
+rule_low TensorIntro = omega arith
+rule_low ParIntro = omega arith
+rule_low TopIntro = omega arith
+rule_low WithIntro = omega arith
+rule_low PlusIntroLeft = omega arith
+rule_low PlusIntroRight = omega arith
+rule_low OfCourseIntro = omega arith
+rule_low WhyNotIntro = omega arith
+rule_low Weakening = omega arith
+rule_low Contraction = omega arith
+rule_low Dereliction = omega arith
+rule_low (FocusPositive i) = omega arith
+rule_low (FocusNegative i) = omega arith
+rule_low Blur = omega arith
+
+pub asked_past : {m : List ℕ} {z : Zones} {rule place mask : ℕ} → 17 < rule → Asked m z rule place mask false
+asked_past h = asked_none (λ r n. absurd (omega (arith, h, n, rule_low r)))
 
 and_assoc : (a b c : Bool) → (a && (b && c)) ≡ (a && b && c)
 and_assoc true b c = refl

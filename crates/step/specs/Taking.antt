@@ -1,6 +1,8 @@
 -- What the functions on steps ask and answer. A contract speaks of the rule that has the number asked for. Assumes nothing: these are definitions.
-use Rattle.std.specs.Prelude.{◌≡◌, Bool, true, false, ◌&&◌, List, [], ◌∷◌, ℕ, ◌^◌, eqb, ltb, get_or, length, Option, None, Some}
+use Rattle.std.specs.Prelude.{◌≡◌, Bool, true, false, ◌&&◌, List, [], ◌∷◌, ℕ, ◌<◌, ◌^◌, eqb, ltb, get_or, length, Option, None, Some, MatchOption}
 use Rattle.std.specs.Option.{IfSome}
+use Rattle.rule.specs.Numbers as by_name
+use Rattle.rule.specs.declared.Rule as code
 use Rattle.logic.specs.Formula.{Formula}
 use Rattle.logic.specs.Parts.{tag_of}
 use Rattle.logic.specs.Sequent.{Sequent}
@@ -34,6 +36,10 @@ pub record SpeltTo (m : List ℕ) (z : Zones) (r : Option Zones) (m' : List ℕ)
 
 pub record TagAt (m : List ℕ) (z : Zones) (i r : ℕ) : Type 0 where
   pub is : r ≡ tag_of (formula_at (sequent m z) i)
+
+-- the rule with this number, or none where the number is above all of them
+pub record Numbered (n : ℕ) (r : Option code.Rule) : Type 0 where
+  pub is : MatchOption r (17 < n) (λ rule. by_name.number_of rule ≡ n)
 
 -- the tag of what a rule of `prove_async` decomposes, by the rule's number; 13 is no tag
 abbrev pub decomposed_tags : List ℕ

@@ -6,41 +6,14 @@ ghost use Rattle.held.specs.Words.{told};
 ghost use Rattle.zones.specs.Zones.{Fits};
 ghost use Rattle.expand.specs.Short as short_words;
 ghost use Rattle.expand.specs.Writing.{Sound};
-ghost use Rattle.step.specs.Taking.{decomposed_tag, SpeltTo, TagAt, Pair, Alone, Split, Focused, Asked, Crowded};
+ghost use Rattle.rule.specs.Numbers.{number_of};
+ghost use Rattle.step.specs.Taking.{Numbered, decomposed_tag, SpeltTo, TagAt, Pair, Alone, Split, Focused, Asked, Crowded};
 
 use expand::steps::first_decomposable;
 use held::turn::spell_held;
 use held::words::field;
+use rule::Rule;
 use zones::Zones;
-
-// Rules by document 01's number: a step is asked for by numbers, and any number may be asked.
-pub const AXIOM: usize = 0;
-
-pub const ONE_INTRO: usize = 2;
-
-const BOTTOM_INTRO: usize = 3;
-
-pub const TENSOR_INTRO: usize = 4;
-
-pub const PAR_INTRO: usize = 5;
-
-const TOP_INTRO: usize = 6;
-
-const WITH_INTRO: usize = 7;
-
-pub const PLUS_INTRO_LEFT: usize = 8;
-
-pub const PLUS_INTRO_RIGHT: usize = 9;
-
-pub const OF_COURSE_INTRO: usize = 10;
-
-const WHY_NOT_INTRO: usize = 11;
-
-pub const WEAKENING: usize = 12;
-
-pub const CONTRACTION: usize = 13;
-
-pub const DERELICTION: usize = 14;
 
 // Tags by document 01's number.
 pub const ONE: usize = 0;
@@ -103,16 +76,24 @@ fn tag_at(mem: &[u16], z: Zones, i: usize) -> usize
     field(mem, x, 0)
 }
 
+// The rule with this number: a step is asked for by numbers, and any number may be asked.
+fn numbered(rule: usize) -> Option<Rule>
+    ensures { Numbered rule result }
+{
+    let number = u8::try_from(rule).ok()?;
+    Rule::try_from(number).ok()
+}
+
 // The tag of the formula that a rule of `prove_async` decomposes, and no tag for any other rule.
-fn decomposed(rule: usize) -> usize
-    ensures { result ≡ decomposed_tag rule }
+fn decomposed(rule: Rule) -> usize
+    ensures { result ≡ decomposed_tag (number_of rule) }
 {
     match rule {
-        BOTTOM_INTRO => BOTTOM,
-        PAR_INTRO => PAR,
-        TOP_INTRO => TOP,
-        WITH_INTRO => WITH,
-        WHY_NOT_INTRO => WHY_NOT,
+        Rule::BottomIntro => BOTTOM,
+        Rule::ParIntro => PAR,
+        Rule::TopIntro => TOP,
+        Rule::WithIntro => WITH,
+        Rule::WhyNotIntro => WHY_NOT,
         _ => NO_TAG,
     }
 }
@@ -158,17 +139,17 @@ fn is_split(mem: &[u16], z: Zones, place: usize, mask: usize) -> bool
 }
 
 // A step of `prove_sync`, where no formula is decomposable and the linear zone is not empty.
-fn takes_focused(mem: &[u16], z: Zones, rule: usize, place: usize, mask: usize) -> bool
+fn takes_focused(mem: &[u16], z: Zones, rule: Rule, place: usize, mask: usize) -> bool
     requires { Focused mem.now z }
-    ensures { Asked mem.now z rule place mask result }
+    ensures { Asked mem.now z (number_of rule) place mask result }
 {
     match rule {
-        AXIOM => place == 0 && is_pair(mem, z),
-        ONE_INTRO => is_alone(mem, z, place, ONE),
-        TENSOR_INTRO => is_split(mem, z, place, mask),
-        PLUS_INTRO_LEFT | PLUS_INTRO_RIGHT => tag_at(mem, z, place) == PLUS,
-        OF_COURSE_INTRO => is_alone(mem, z, place, OF_COURSE),
-        WEAKENING | CONTRACTION | DERELICTION => place < z.unrestricted_len,
+        Rule::Axiom => place == 0 && is_pair(mem, z),
+        Rule::OneIntro => is_alone(mem, z, place, ONE),
+        Rule::TensorIntro => is_split(mem, z, place, mask),
+        Rule::PlusIntroLeft | Rule::PlusIntroRight => tag_at(mem, z, place) == PLUS,
+        Rule::OfCourseIntro => is_alone(mem, z, place, OF_COURSE),
+        Rule::Weakening | Rule::Contraction | Rule::Dereliction => place < z.unrestricted_len,
         _ => false,
     }
 }
@@ -178,11 +159,14 @@ pub fn may_take(mem: &[u16], z: Zones, rule: usize, place: usize, mask: usize) -
     requires { Sound mem.now z }
     ensures { Asked mem.now z rule place mask result }
 {
+    let Some(known) = numbered(rule) else {
+        return false;
+    };
     let first = first_decomposable(mem, z);
     if first < z.linear_len {
-        return place == first && tag_at(mem, z, place) == decomposed(rule);
+        return place == first && tag_at(mem, z, place) == decomposed(known);
     }
-    z.linear_len != 0 && takes_focused(mem, z, rule, place, mask)
+    z.linear_len != 0 && takes_focused(mem, z, known, place, mask)
 }
 
 // Whether a premise has more formulas than a sequent may: at ParIntro and Contraction alone it has one more than the conclusion.
@@ -190,7 +174,10 @@ pub fn is_crowded(z: Zones, rule: usize) -> bool
     requires { Fits z }
     ensures { Crowded z rule result }
 {
-    z.count() >= MOST && matches!(rule, PAR_INTRO | CONTRACTION)
+    let Some(known) = numbered(rule) else {
+        return false;
+    };
+    z.count() >= MOST && matches!(known, Rule::ParIntro | Rule::Contraction)
 }
 
 // The word of a node (crates/expand/specs/Short.antt).
