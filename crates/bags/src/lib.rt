@@ -2,13 +2,12 @@
 #![tactic(auto)]
 
 ghost use Rattle.std.specs.Prelude.{◌≡◌, ◌≤◌, length};
-ghost use Rattle.logic.specs.Parts.{negated_tag};
 ghost use Rattle.bags.specs.Reading.{sign_of, left_how, right_how};
 ghost use Rattle.bags.specs.Compared.{SignOf, LeftOf, RightOf, Names, TopsAre, Compares, Once};
 ghost use Rattle.bags.specs.Runs.{Short, RunWithin, BagWithin, Counts, CountsIn, Agrees, Long, LongIn, BagsSame};
 
 use formula::Form;
-use formula::rewrite::LOLLI;
+use formula::rewrite::{LOLLI, dual};
 use tree::HIGHEST_FORMULA;
 
 // How the formula at a place is read: as it stands, with an implication at the top spelled out, or negated.
@@ -44,15 +43,6 @@ enum Tops {
 
 const PAR: u8 = 7;
 
-// The tag of the negation, by the tag. The same numbers as in formula::rewrite, which looks up known tags alone.
-const NEGATED: [u8; 13] = [1, 0, 3, 2, 5, 4, 7, 6, 9, 8, 6, 12, 11];
-
-fn negated(tag: u8) -> u8
-    ensures { result ≡ negated_tag tag }
-{
-    NEGATED.get(usize::from(tag)).copied().unwrap_or(0)
-}
-
 // The tag of a formula read so.
 #[tactic(auto, unfolding(crate::specs::Reading::sign_of))]
 pub fn sign(tag: u8, how: How) -> u8
@@ -62,7 +52,7 @@ pub fn sign(tag: u8, how: How) -> u8
         How::Plain => tag,
         How::Spelled if tag == LOLLI => PAR,
         How::Spelled => tag,
-        How::Negated => negated(tag),
+        How::Negated => dual(tag as usize),
     }
 }
 

@@ -2,22 +2,13 @@
 ghost use Rattle.std.specs.Prelude.{◌≡◌, ◌+◌, ◌-◌, ◌<◌, ◌≤◌, length};
 ghost use Rattle.std.specs.Option.{SomeIff};
 ghost use Rattle.logic.specs.Formula.{negate};
-ghost use Rattle.logic.specs.Parts.{negated_tag};
 ghost use Rattle.held.specs.Words.{count, most, told, Wf};
 ghost use Rattle.held.specs.Answers.{NumberOf};
 ghost use Rattle.expand.specs.Negations.{Table, Above, Negated};
 
+use formula::rewrite::dual;
 use held::entry::find;
 use held::words::field;
-
-// The tag of the negation, by a table.
-fn dual(tag: usize) -> usize
-    requires { tag < 13 }
-    ensures { result ≡ negated_tag tag }
-{
-    let duals: [usize; 13] = [1, 0, 3, 2, 5, 4, 7, 6, 9, 8, 6, 12, 11];
-    duals[tag]
-}
 
 // The number that a word of the table notes: the word is one more than it, and 0 notes none.
 fn noted(word: u16) -> Option<usize>
@@ -34,8 +25,9 @@ fn negation(mem: &[u16], table: &[u16], x: usize) -> Option<usize>
     let tag = field(mem, x, 0);
     let a = field(mem, x, 1);
     let b = field(mem, x, 2);
+    let turned = usize::from(dual(tag));
     if tag < 6 {
-        return find(mem, dual(tag), a, 0);
+        return find(mem, turned, a, 0);
     }
     if tag == 10 {
         let right = noted(table[b])?;
@@ -43,10 +35,10 @@ fn negation(mem: &[u16], table: &[u16], x: usize) -> Option<usize>
     }
     let left = noted(table[a])?;
     if 10 < tag {
-        return find(mem, dual(tag), left, 0);
+        return find(mem, turned, left, 0);
     }
     let right = noted(table[b])?;
-    find(mem, dual(tag), left, right)
+    find(mem, turned, left, right)
 }
 
 // `top`, made to lie above the left part of formula x where that is an implication.

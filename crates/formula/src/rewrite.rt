@@ -1,5 +1,6 @@
 // A formula's bytes rewritten: `negate` and `desugar` of formula.rs keep every byte's place, and change tags alone. So one walk does both, and writes each byte at the place where it read one.
 ghost use Rattle.std.specs.Prelude.{◌≡◌, ◌<◌, length};
+ghost use Rattle.logic.specs.Parts.{negated_tag};
 ghost use Rattle.wire.specs.Write.{write_formula};
 ghost use Rattle.formula.specs.Calls.{Writes};
 ghost use Rattle.formula.specs.Rewriting.{rewritten, turned_of, left_of, Ready, Rewritten};
@@ -22,15 +23,22 @@ const DUALS: [u8; 13] = [1, 0, 3, 2, 5, 4, 7, 6, 9, 8, 6, 12, 11];
 
 const SPELLED: [u8; 13] = [0, 1, 2, 3, 4, 5, 6, 7, 8, 9, 7, 11, 12];
 
+// The tag of the negation, and 0 for a tag that no formula has.
+pub fn dual(tag: usize) -> u8
+    ensures { result ≡ negated_tag tag }
+{
+    DUALS.get(tag).copied().unwrap_or(0)
+}
+
 fn turned(tag: u8, how: How) -> u8
     requires { tag < 13 }
     ensures { result ≡ turned_of tag how }
 {
     match how {
         How::Copy => tag,
-        How::Negate => DUALS[tag as usize],
+        How::Negate => dual(tag as usize),
         How::Spell => SPELLED[tag as usize],
-        How::SpellNegated => DUALS[tag as usize],
+        How::SpellNegated => dual(tag as usize),
     }
 }
 

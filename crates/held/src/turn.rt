@@ -1,21 +1,12 @@
 // Negating a held formula and spelling out an implication, over shared parts: each held part is turned once.
-ghost use Rattle.std.specs.Prelude.{◌≡◌, ◌<◌};
+ghost use Rattle.std.specs.Prelude.{◌<◌};
 ghost use Rattle.logic.specs.Formula.{negate, spell};
-ghost use Rattle.logic.specs.Parts.{negated_tag};
 ghost use Rattle.held.specs.Words.{count, told, Wf};
 ghost use Rattle.held.specs.Turn.{Turn, StepOf, Ready, Finished, Turned, EnteredOr, Implication};
 
 use super::entry::{add, cut};
 use super::words::field;
-
-// The tag of the negation. By a table: this crate reads tags as words and does not use `formula`.
-fn dual(tag: usize) -> usize
-    requires { tag < 13 }
-    ensures { result ≡ negated_tag tag }
-{
-    let duals: [usize; 13] = [1, 0, 3, 2, 5, 4, 7, 6, 9, 8, 6, 12, 11];
-    duals[tag]
-}
+use formula::rewrite::dual;
 
 // What negating a formula takes: nothing, no part, the right part, two parts, one part.
 #[derive(Clone, Copy)]
@@ -39,16 +30,17 @@ fn step_of(mem: &[u16], memo: &[u16], x: usize) -> Step
     let tag = field(mem, x, 0);
     let a = field(mem, x, 1);
     let b = field(mem, x, 2);
+    let turned = usize::from(dual(tag));
     if tag < 6 {
-        return Step::Leaf(dual(tag), a);
+        return Step::Leaf(turned, a);
     }
     if tag < 10 {
-        return Step::Two(dual(tag), a, b);
+        return Step::Two(turned, a, b);
     }
     if tag == 10 {
         return Step::Half(a, b);
     }
-    Step::Single(dual(tag), a)
+    Step::Single(turned, a)
 }
 
 // Enters the negation of formula x, whose parts are held, and notes its number.
