@@ -99,19 +99,13 @@ pub const HIGHEST: usize = 64;
 pub fn form_of(tag: u8) -> Form
     ensures { result ≡ form_of tag }
 {
-    if tag < 4 {
-        return Form::Unit;
+    match tag {
+        0..=3 => Form::Unit,
+        4 | 5 => Form::Named,
+        6..=10 => Form::Binary,
+        11 | 12 => Form::Unary,
+        _ => Form::Unknown,
     }
-    if tag < 6 {
-        return Form::Named;
-    }
-    if tag < 11 {
-        return Form::Binary;
-    }
-    if tag < 13 {
-        return Form::Unary;
-    }
-    Form::Unknown
 }
 
 // Where no level is left: a tag that is none is told first.

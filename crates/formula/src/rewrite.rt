@@ -18,7 +18,7 @@ pub enum How {
 
 pub const LOLLI: u8 = 10;
 
-// By tag: the negation's tag; the tag with an implication spelled out.
+// By tag: the negation's tag; the tag with an implication spelled out. Tables, since a tag's value is looked up at every byte.
 const DUALS: [u8; 13] = [1, 0, 3, 2, 5, 4, 7, 6, 9, 8, 6, 12, 11];
 
 const SPELLED: [u8; 13] = [0, 1, 2, 3, 4, 5, 6, 7, 8, 9, 7, 11, 12];
@@ -36,9 +36,8 @@ fn turned(tag: u8, how: How) -> u8
 {
     match how {
         How::Copy => tag,
-        How::Negate => dual(tag as usize),
+        How::Negate | How::SpellNegated => dual(tag as usize),
         How::Spell => SPELLED[tag as usize],
-        How::SpellNegated => dual(tag as usize),
     }
 }
 

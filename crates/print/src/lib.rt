@@ -18,7 +18,7 @@ pub enum Style {
     Ascii,
 }
 
-// A walk that only counts, or one that writes.
+// A walk that only counts, or one that writes: no closure, which would hold the buffer through the whole walk.
 #[derive(Clone, Copy, Debug, PartialEq, Eq)]
 pub enum Pass {
     Count,

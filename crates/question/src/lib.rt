@@ -144,6 +144,7 @@ fn negate_formulas(s: &[u8], at: usize, end: usize, out: &mut [u8])
     requires { Negatable s.now at end out.old }
     ensures { out.new ≡ sets out.old at (negated (read_all (slice at end s.now))) }
 {
+    // No index loop: a formula's end is where the next begins.
     let mut p = at;
     while p < end {
         let Ok(next) = formula::read_formula(s, p, end, HIGHEST) else {

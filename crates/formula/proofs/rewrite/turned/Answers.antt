@@ -1,4 +1,5 @@
 use mathlib.Core.Path.{sym, ap, ◌∙◌}
+use mathlib.Core.Logic.{inl, inr}
 use borrow.Author.Rules.{rules}
 use Rattle.logic.specs.Parts.{negated_tag}
 use Rattle.formula.specs.Rewriting.{turned_of}
@@ -10,12 +11,8 @@ returns-in-Copy c = search rules
 
 pub returns-in-Negate : goal.returns-in-Negate
 unfolding turned_of negated_tag
-returns-in-Negate c = c.dual.ensures ∙ sym (ap (turned_of c.args.tag) c.in-Negate.is)
+returns-in-Negate c = elim c.in-Negate.is [ inl e ↦ c.dual.ensures ∙ sym (ap (turned_of c.args.tag) e) | inr e ↦ c.dual.ensures ∙ sym (ap (turned_of c.args.tag) e) ]
 
 pub returns-in-Spell : goal.returns-in-Spell
 unfolding turned_of
 returns-in-Spell c = sym (ap (turned_of c.args.tag) c.in-Spell.is)
-
-pub returns-in-SpellNegated : goal.returns-in-SpellNegated
-unfolding turned_of negated_tag
-returns-in-SpellNegated c = c.dual-in-SpellNegated.ensures ∙ sym (ap (turned_of c.args.tag) c.in-SpellNegated.is)
