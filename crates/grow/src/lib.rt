@@ -7,7 +7,8 @@ ghost use Rattle.grow.specs.Growing.{MaskAt, NodeAt, Putting, PutHead, Growing, 
 
 use expand::nodes::{head_bytes, head_length};
 use expand::steps::{first_premise, premises, second_premise};
-use short_read::{TENSOR_INTRO, four_at, node_length};
+use rule::Rule;
+use short_read::{four_at, node_length};
 use step::{is_crowded, may_take, node_word, spell_first};
 use tree::{after, byte_at};
 use zones::Zones;
@@ -46,7 +47,7 @@ fn mask_at(s: &[u8], at: usize, rule: u8) -> usize
     requires { at ≤ 65538 }
     ensures { MaskAt s.now at rule result }
 {
-    if rule == TENSOR_INTRO {
+    if rule == u8::from(Rule::TensorIntro) {
         four_at(s, at + 2)
     } else {
         0

@@ -7,11 +7,10 @@ ghost use Rattle.short_bytes.specs.Read.{read_short_node, read_short};
 ghost use Rattle.short_read.specs.Reading.{premises_by, node_bytes, short_read, four, HeadRead};
 
 use formula::Refusal;
+use rule::Rule;
 use tree::{HIGHEST_TREE, byte_at, two_at};
 
 pub const VERSION: u8 = 2;
-
-pub const TENSOR_INTRO: u8 = 4;
 
 // How many premises a rule has, by its number; 3 for a number that has no short form, as the laws count it (`premises_by`).
 const PREMISES: [usize; 15] = [0, 3, 0, 1, 2, 1, 0, 2, 1, 1, 1, 1, 1, 1, 1];
@@ -31,7 +30,11 @@ pub fn premises_of(rule: u8) -> usize
 pub fn node_length(rule: u8) -> usize
     ensures { result ≡ node_bytes rule }
 {
-    if rule == TENSOR_INTRO { 6 } else { 2 }
+    if rule == u8::from(Rule::TensorIntro) {
+        6
+    } else {
+        2
+    }
 }
 
 // The number of four bytes at a place; a byte past the end is 0.

@@ -9,7 +9,8 @@ ghost use Rattle.shrink.specs.Shrinking.{PutNode, Shrinking, Shrinks};
 use expand::steps::{first_premise, premises, second_premise};
 use expand::writers::two_bytes;
 use least::least_step;
-use short_read::{TENSOR_INTRO, node_length};
+use rule::Rule;
+use short_read::node_length;
 use step::{node_word, spell_first};
 use tree::node_at;
 use zones::Zones;
@@ -48,7 +49,7 @@ fn put_node(out: &mut [u8], to: usize, rule: u8, place: usize, mask: usize) -> u
     }
     out[to] = rule;
     out[to + 1] = place as u8;
-    if rule == TENSOR_INTRO {
+    if rule == u8::from(Rule::TensorIntro) {
         return put_mask(out, to + 2, mask);
     }
     next
