@@ -1,7 +1,7 @@
-// The oracle's stored lists (docs/ORACLE.md, "The files") as standard input, and a tally of what differs from them.
+// The oracle's stored lists (docs/ORACLE.md, "The lists") as standard input, and a tally of what differs from them.
 #![tactic(auto)]
 
-ghost use Rattle.std.specs.Prelude.{◌≡◌, ◌<◌, min, length};
+ghost use Rattle.std.specs.Prelude.{◌≡◌, ◌<◌, ◌≤◌, length};
 ghost use Rattle.std.specs.Counts.{IsPrefixLen};
 
 use std::io;
@@ -77,7 +77,9 @@ pub fn long_number(input: &mut impl Read) -> u32 {
 }
 
 // The next so many bytes, at the front of `buf`, or as many as there are. More than `buf` holds are none.
-pub fn bytes<'a>(input: &mut impl Read, buf: &'a mut [u8], n: usize) -> &'a [u8] {
+pub fn bytes<'a>(input: &mut impl Read, buf: &'a mut [u8], n: usize) -> &'a [u8]
+    ensures { length result.now ≤ length buf.old }
+{
     if buf.len() < n {
         return &[];
     }
@@ -86,7 +88,9 @@ pub fn bytes<'a>(input: &mut impl Read, buf: &'a mut [u8], n: usize) -> &'a [u8]
 }
 
 // The next bytes behind their number of two bytes, as long as it says.
-pub fn item<'a>(input: &mut impl Read, buf: &'a mut [u8]) -> &'a [u8] {
+pub fn item<'a>(input: &mut impl Read, buf: &'a mut [u8]) -> &'a [u8]
+    ensures { length result.now ≤ length buf.old }
+{
     let n = number(input);
     bytes(input, buf, usize::from(n))
 }
