@@ -129,7 +129,7 @@ fn high_rows() -> Tally {
 }
 
 fn main(rt: HostRuntime) -> io::Result<()> {
-    replay(&mut rt.reader()).print(&rt, "formulas")?;
-    short_rows().print(&rt, "settled answers at short formulas")?;
-    high_rows().print(&rt, "settled answers at the highest level")
+    replay(&mut rt.reader()).print(&rt, b" formulas")?;
+    short_rows().print(&rt, b" settled answers at short formulas")?;
+    high_rows().print(&rt, b" settled answers at the highest level")
 }

@@ -146,9 +146,9 @@ fn heights() -> Tally {
 }
 
 fn main(rt: HostRuntime) -> io::Result<()> {
-    replay(&mut rt.reader()).print(&rt, "questions")?;
-    tally(&HEADS).print(&rt, "settled answers at the head")?;
-    tally(&ZONES).print(&rt, "settled answers at zones")?;
-    widths().print(&rt, "settled answers at wide questions")?;
-    heights().print(&rt, "settled answers at high formulas")
+    replay(&mut rt.reader()).print(&rt, b" questions")?;
+    tally(&HEADS).print(&rt, b" settled answers at the head")?;
+    tally(&ZONES).print(&rt, b" settled answers at zones")?;
+    widths().print(&rt, b" settled answers at wide questions")?;
+    heights().print(&rt, b" settled answers at high formulas")
 }

@@ -13,16 +13,16 @@ use std::io;
 
 // What is refused before a search.
 fn print_entry(rt: &impl Print) -> io::Result<()> {
-    limits::reading().print(rt, "settled answers at reading")?;
-    limits::settings().print(rt, "settled answers at the settings")?;
-    limits::memories().print(rt, "settled answers at the lent memory")
+    limits::reading().print(rt, b" settled answers at reading")?;
+    limits::settings().print(rt, b" settled answers at the settings")?;
+    limits::memories().print(rt, b" settled answers at the lent memory")
 }
 
 fn main(rt: HostRuntime) -> io::Result<()> {
     replay::replay(&rt, &mut rt.reader())?;
     print_entry(&rt)?;
-    limits::formulas().print(&rt, "settled answers at full formulas")?;
-    limits::failures().print(&rt, "settled answers at full failures")?;
-    limits::trees().print(&rt, "settled answers at long trees")?;
-    middle::refusals().print(&rt, "settled refusals in the middle of a search")
+    limits::formulas().print(&rt, b" settled answers at full formulas")?;
+    limits::failures().print(&rt, b" settled answers at full failures")?;
+    limits::trees().print(&rt, b" settled answers at long trees")?;
+    middle::refusals().print(&rt, b" settled refusals in the middle of a search")
 }

@@ -142,9 +142,9 @@ fn session(input: &mut impl Read, replay: Compared, cache: bool, questions: u8) 
 
 fn print(rt: &impl Print, sessions: usize, r: Compared) -> io::Result<()> {
     println!(rt; "{sessions} sessions")?;
-    r.found.print(rt, "trees found")?;
-    r.not_found.print(rt, "questions with no tree")?;
-    r.failures.print(rt, "failures")
+    r.found.print(rt, b" trees found")?;
+    r.not_found.print(rt, b" questions with no tree")?;
+    r.failures.print(rt, b" failures")
 }
 
 // Every session of the list; one has a question at least, and past the end of the list it has none.

@@ -56,16 +56,16 @@ fn replay(input: &mut impl Read) -> Tally {
 
 // What is refused in reading, and what in checking.
 fn print_short(rt: &impl Print) -> io::Result<()> {
-    settled::frames().print(rt, "settled answers at the frame")?;
-    settled::nodes().print(rt, "settled answers at a node")?;
-    settled::verdicts().print(rt, "settled verdicts")?;
-    settled::steps().print(rt, "settled steps")
+    settled::frames().print(rt, b" settled answers at the frame")?;
+    settled::nodes().print(rt, b" settled answers at a node")?;
+    settled::verdicts().print(rt, b" settled verdicts")?;
+    settled::steps().print(rt, b" settled steps")
 }
 
 fn main(rt: HostRuntime) -> io::Result<()> {
-    replay(&mut rt.reader()).print(&rt, "trees")?;
+    replay(&mut rt.reader()).print(&rt, b" trees")?;
     print_short(&rt)?;
-    settled::widths().print(&rt, "settled answers at wide sequents")?;
-    settled::chains().print(&rt, "settled answers at high trees")?;
-    settled::heights().print(&rt, "settled answers at high formulas")
+    settled::widths().print(&rt, b" settled answers at wide sequents")?;
+    settled::chains().print(&rt, b" settled answers at high trees")?;
+    settled::heights().print(&rt, b" settled answers at high formulas")
 }

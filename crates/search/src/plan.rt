@@ -155,11 +155,19 @@ pub fn premise(rule: Exponential, z: Zones, i: usize) -> Zones
 }
 
 // A node's word: the rule's number, the place of the principal formula in its zone, the mask. As step's `node_word`: neither crate uses the other.
-pub fn word(rule: Rule, place: usize, mask: usize) -> u64
+pub fn word(rule: u64, place: usize, mask: usize) -> u64
+    requires { (rule < 32) × ((place < 32) × (mask < 1073741824)) }
+    ensures { result ≡ short.word rule place mask }
+{
+    rule + 32 * (place as u64) + 1024 * (mask as u64)
+}
+
+// The word of a node of this rule.
+pub fn node(rule: Rule, place: usize, mask: usize) -> u64
     requires { (place < 32) × (mask < 1073741824) }
     ensures { result ≡ short.word (rules.number_of rule) place mask }
 {
-    u64::from(u8::from(rule)) + 32 * (place as u64) + 1024 * (mask as u64)
+    word(u64::from(u8::from(rule)), place, mask)
 }
 
 // How many masks there are over n items.

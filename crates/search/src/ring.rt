@@ -8,7 +8,7 @@ ghost use Rattle.search.specs.Contract.{Leaf, FiledOr, Ready, Visits, Decomposes
 
 use super::counters::Counters;
 use super::plan::{
-    Exponential, Focus, Plan, first_plan, focus_on, masks_over, premise, too_long, word,
+    Exponential, Focus, Plan, first_plan, focus_on, masks_over, node, premise, too_long,
 };
 use super::{Outcome, Prover};
 use formula::Refusal;
@@ -117,19 +117,19 @@ impl Prover {
                     return Outcome::Refused(Refusal::TooMany, c);
                 }
                 let y = z.without(i).pushed(a).pushed(b);
-                self.under(y, word(Rule::ParIntro, i, 0), spot, c, mem, work)
+                self.under(y, node(Rule::ParIntro, i, 0), spot, c, mem, work)
             }
             Plan::Bottom(i) => {
                 let y = z.without(i);
-                self.under(y, word(Rule::BottomIntro, i, 0), spot, c, mem, work)
+                self.under(y, node(Rule::BottomIntro, i, 0), spot, c, mem, work)
             }
-            Plan::Top(i) => leaf(word(Rule::TopIntro, i, 0), spot.at, c, work),
+            Plan::Top(i) => leaf(node(Rule::TopIntro, i, 0), spot.at, c, work),
             Plan::With(i, a, b) => {
                 let y = z.without(i);
                 self.both(
                     y.pushed(a),
                     y.pushed(b),
-                    word(Rule::WithIntro, i, 0),
+                    node(Rule::WithIntro, i, 0),
                     spot,
                     c,
                     mem,
@@ -138,7 +138,7 @@ impl Prover {
             }
             Plan::WhyNot(i, a) => {
                 let y = z.without(i).pushed_unrestricted(a);
-                self.under(y, word(Rule::WhyNotIntro, i, 0), spot, c, mem, work)
+                self.under(y, node(Rule::WhyNotIntro, i, 0), spot, c, mem, work)
             }
             Plan::Lolli(i, x) => self.spelled(z, i, x, spot, c, mem, work),
             Plan::Rest => self.prove_sync(z, spot, c, mem, work),
@@ -237,13 +237,13 @@ impl Prover {
     {
         let f = focus_on(mem, z, i);
         match f {
-            Focus::Axiom => leaf(word(Rule::Axiom, 0, 0), spot.at, c, work),
-            Focus::One => leaf(word(Rule::OneIntro, 0, 0), spot.at, c, work),
+            Focus::Axiom => leaf(node(Rule::Axiom, 0, 0), spot.at, c, work),
+            Focus::One => leaf(node(Rule::OneIntro, 0, 0), spot.at, c, work),
             Focus::Tensor(a, b) => self.masks(z, i, a, b, spot, c, mem, work),
             Focus::Plus(a, b) => self.plus(z, i, a, b, spot, c, mem, work),
             Focus::OfCourse(a) => self.under(
                 z.only(a),
-                word(Rule::OfCourseIntro, i, 0),
+                node(Rule::OfCourseIntro, i, 0),
                 spot,
                 c,
                 mem,
@@ -275,7 +275,7 @@ impl Prover {
             let r = self.both(
                 z.left_part(i, m, a),
                 z.right_part(i, m, b),
-                word(Rule::TensorIntro, i, m),
+                node(Rule::TensorIntro, i, m),
                 spot,
                 c1,
                 mem,
@@ -308,7 +308,7 @@ impl Prover {
     {
         let r = self.under(
             z.replaced(i, a),
-            word(Rule::PlusIntroLeft, i, 0),
+            node(Rule::PlusIntroLeft, i, 0),
             spot,
             c,
             mem,
@@ -319,7 +319,7 @@ impl Prover {
         };
         self.under(
             z.replaced(i, b),
-            word(Rule::PlusIntroRight, i, 0),
+            node(Rule::PlusIntroRight, i, 0),
             spot,
             c1,
             mem,
@@ -407,7 +407,7 @@ impl Prover {
         }
         self.under(
             premise(rule, z, i),
-            word(Rule::from(rule), i, 0),
+            node(Rule::from(rule), i, 0),
             spot,
             c,
             mem,

@@ -33,8 +33,10 @@ impl Tally {
     }
 
     // As `3142 formulas, 0 differing`.
-    pub fn print(self, rt: &impl Print, what: &str) -> io::Result<()> {
-        println!(rt; "{} {what}, {} differing", self.compared, self.differing)
+    pub fn print(self, rt: &impl Print, what: &[u8]) -> io::Result<()> {
+        print!(rt; "{}", self.compared)?;
+        rt.write_all(what)?;
+        println!(rt; ", {} differing", self.differing)
     }
 }
 

@@ -43,17 +43,17 @@ exponentials-returns t c = exponentials_go c.args.spot.left c.args.spot.depth c.
 pub masks-loop-m-init : goal.masks-loop-m-init
 masks-loop-m-init t c = splitting_starts c.args.spot.left c.args.spot.depth c.requires.0 c.requires.1 c.masks_over-n.ensures
 
-pub masks-word-requires : goal.masks-word-requires
-masks-word-requires t c = (place_low c.args.spot.left c.args.spot.depth c.requires.0 c.requires.1.place, omega (arith, c.masks_over-n.ensures, pow_small (c.args.z.linear_len - 1) (omega (arith, c.requires.0.zones.fits.few))))
+pub masks-node-requires : goal.masks-node-requires
+masks-node-requires t c = (place_low c.args.spot.left c.args.spot.depth c.requires.0 c.requires.1.place, omega (arith, c.masks_over-n.ensures, pow_small (c.args.z.linear_len - 1) (omega (arith, c.requires.0.zones.fits.few))))
 
 pub masks-both-r-requires : goal.masks-both-r-requires
 masks-both-r-requires t c = (omega arith, (ready_zones (ready_after c.requires.0 c.loop-m.invariant.kept) (stands_later c.loop-m.invariant.kept.grew (stands_made c.requires.0.zones c.left_part.ensures c.requires.1.left)), stands_later c.loop-m.invariant.kept.grew (stands_made c.requires.0.zones c.right_part.ensures c.requires.1.right)))
 
 pub masks-loop-m-preserved : goal.masks-loop-m-preserved
-masks-loop-m-preserved t c = splitting_goes c.args.spot.left c.args.spot.depth c.requires.0 c.requires.1 c.loop-m.invariant c.loop-m-test.true c.left_part.ensures c.right_part.ensures c.word.ensures c.both-r.ensures c.in-Nothing.is
+masks-loop-m-preserved t c = splitting_goes c.args.spot.left c.args.spot.depth c.requires.0 c.requires.1 c.loop-m.invariant c.loop-m-test.true c.left_part.ensures c.right_part.ensures c.node.ensures c.both-r.ensures c.in-Nothing.is
 
 pub masks-returns-in_default : goal.masks-returns-in_default
-masks-returns-in_default t c = splitting_stops c.args.spot.left c.args.spot.depth c.requires.0 c.requires.1 c.loop-m.invariant c.loop-m-test.true c.left_part.ensures c.right_part.ensures c.word.ensures c.both-r.ensures (not_nothing _ c.in_default.not-Nothing)
+masks-returns-in_default t c = splitting_stops c.args.spot.left c.args.spot.depth c.requires.0 c.requires.1 c.loop-m.invariant c.loop-m-test.true c.left_part.ensures c.right_part.ensures c.node.ensures c.both-r.ensures (not_nothing _ c.in_default.not-Nothing)
 
 pub masks-returns : goal.masks-returns
 masks-returns t c = splitting_ends c.args.spot.left c.args.spot.depth c.requires.0 c.requires.1 c.loop-m.invariant c.loop-m-test.false
@@ -62,13 +62,13 @@ pub plus-under-r-requires : goal.plus-under-r-requires
 plus-under-r-requires t c = (omega arith, ready_zones c.requires.0 (stands_made c.requires.0.zones c.replaced.ensures c.requires.1.left))
 
 pub plus-returns-in_default : goal.plus-returns-in_default
-plus-returns-in_default t c = plus_stops c.args.spot.left c.args.spot.depth c.requires.0 c.requires.1 c.replaced.ensures c.word.ensures c.under-r.ensures (not_nothing _ (search rules))
+plus-returns-in_default t c = plus_stops c.args.spot.left c.args.spot.depth c.requires.0 c.requires.1 c.replaced.ensures c.node.ensures c.under-r.ensures (not_nothing _ (search rules))
 
 pub plus-under-requires : goal.plus-under-requires
-plus-under-requires t c = (omega arith, plus_again c.args.spot.left c.args.spot.depth c.requires.0 c.requires.1 c.replaced.ensures c.word.ensures c.under-r.ensures (search rules) c.replaced-2.ensures)
+plus-under-requires t c = (omega arith, plus_again c.args.spot.left c.args.spot.depth c.requires.0 c.requires.1 c.replaced.ensures c.node.ensures c.under-r.ensures (search rules) c.replaced-2.ensures)
 
 pub plus-returns : goal.plus-returns
-plus-returns t c = plus_goes c.args.spot.left c.args.spot.depth c.requires.0 c.requires.1 c.replaced.ensures c.word.ensures c.under-r.ensures (search rules) c.replaced-2.ensures c.word-2.ensures c.under.ensures
+plus-returns t c = plus_goes c.args.spot.left c.args.spot.depth c.requires.0 c.requires.1 c.replaced.ensures c.node.ensures c.under-r.ensures (search rules) c.replaced-2.ensures c.node-2.ensures c.under.ensures
 
 pub positives-loop-i-preserved : goal.positives-loop-i-preserved
 positives-loop-i-preserved t c = choosing_goes c.args.spot.left c.args.spot.depth c.requires c.loop-i.invariant c.loop-i-test.true c.prove_focused-a.ensures c.in-Nothing.is
@@ -112,28 +112,28 @@ pub prove_async-returns-in-Empty : goal.prove_async-returns-in-Empty
 prove_async-returns-in-Empty t c = on_empty c.args.spot.left c.args.spot.depth c.requires (subst (Planned c.args.mem.now c.args.z) c.in-Empty.is c.first_plan-p.ensures)
 
 pub prove_async-returns-else-count-eq-MAX_SEQUENT : goal.prove_async-returns-else-count-eq-MAX_SEQUENT
-prove_async-returns-else-count-eq-MAX_SEQUENT t c = on_par c.args.spot.left c.args.spot.depth c.requires (subst (Planned c.args.mem.now c.args.z) c.in-Par.is c.first_plan-p.ensures) c.without.ensures c.pushed.ensures c.pushed-y.ensures c.word.ensures c.under.ensures
+prove_async-returns-else-count-eq-MAX_SEQUENT t c = on_par c.args.spot.left c.args.spot.depth c.requires (subst (Planned c.args.mem.now c.args.z) c.in-Par.is c.first_plan-p.ensures) c.without.ensures c.pushed.ensures c.pushed-y.ensures c.node.ensures c.under.ensures
 
 pub prove_async-returns-in-Bottom : goal.prove_async-returns-in-Bottom
-prove_async-returns-in-Bottom t c = on_bottom c.args.spot.left c.args.spot.depth c.requires (subst (Planned c.args.mem.now c.args.z) c.in-Bottom.is c.first_plan-p.ensures) c.without-y.ensures c.word-in-Bottom.ensures c.under-in-Bottom.ensures
+prove_async-returns-in-Bottom t c = on_bottom c.args.spot.left c.args.spot.depth c.requires (subst (Planned c.args.mem.now c.args.z) c.in-Bottom.is c.first_plan-p.ensures) c.without-y.ensures c.node-in-Bottom.ensures c.under-in-Bottom.ensures
 
 pub prove_async-returns-in-Top : goal.prove_async-returns-in-Top
-prove_async-returns-in-Top t c = on_top c.args.spot.left c.args.spot.depth c.requires (subst (Planned c.args.mem.now c.args.z) c.in-Top.is c.first_plan-p.ensures) c.word-in-Top.ensures c.leaf.ensures
+prove_async-returns-in-Top t c = on_top c.args.spot.left c.args.spot.depth c.requires (subst (Planned c.args.mem.now c.args.z) c.in-Top.is c.first_plan-p.ensures) c.node-in-Top.ensures c.leaf.ensures
 
 pub prove_async-returns-in-With : goal.prove_async-returns-in-With
-prove_async-returns-in-With t c = on_with c.args.spot.left c.args.spot.depth c.requires (subst (Planned c.args.mem.now c.args.z) c.in-With.is c.first_plan-p.ensures) c.without-y-in-With.ensures c.pushed-in-With.ensures c.pushed-in-With-2.ensures c.word-in-With.ensures c.both.ensures
+prove_async-returns-in-With t c = on_with c.args.spot.left c.args.spot.depth c.requires (subst (Planned c.args.mem.now c.args.z) c.in-With.is c.first_plan-p.ensures) c.without-y-in-With.ensures c.pushed-in-With.ensures c.pushed-in-With-2.ensures c.node-in-With.ensures c.both.ensures
 
 pub prove_async-returns-in-WhyNot : goal.prove_async-returns-in-WhyNot
-prove_async-returns-in-WhyNot t c = on_why_not c.args.spot.left c.args.spot.depth c.requires (subst (Planned c.args.mem.now c.args.z) c.in-WhyNot.is c.first_plan-p.ensures) c.without-in-WhyNot.ensures c.pushed_unrestricted-y.ensures c.word-in-WhyNot.ensures c.under-in-WhyNot.ensures
+prove_async-returns-in-WhyNot t c = on_why_not c.args.spot.left c.args.spot.depth c.requires (subst (Planned c.args.mem.now c.args.z) c.in-WhyNot.is c.first_plan-p.ensures) c.without-in-WhyNot.ensures c.pushed_unrestricted-y.ensures c.node-in-WhyNot.ensures c.under-in-WhyNot.ensures
 
 pub prove_async-returns-in-Rest : goal.prove_async-returns-in-Rest
 prove_async-returns-in-Rest t c = on_rest c.args.spot.left c.args.spot.depth c.requires (subst (Planned c.args.mem.now c.args.z) c.in-Rest.is c.first_plan-p.ensures) c.prove_sync.ensures
 
 pub prove_focused-returns-in-Axiom : goal.prove_focused-returns-in-Axiom
-prove_focused-returns-in-Axiom t c = on_axiom c.args.spot.left c.args.spot.depth c.requires.0 c.requires.1 (subst (Focused c.args.mem.now c.args.z c.args.i) c.in-Axiom.is c.focus_on-f.ensures) c.word.ensures c.leaf.ensures
+prove_focused-returns-in-Axiom t c = on_axiom c.args.spot.left c.args.spot.depth c.requires.0 c.requires.1 (subst (Focused c.args.mem.now c.args.z c.args.i) c.in-Axiom.is c.focus_on-f.ensures) c.node.ensures c.leaf.ensures
 
 pub prove_focused-returns-in-One : goal.prove_focused-returns-in-One
-prove_focused-returns-in-One t c = on_one c.args.spot.left c.args.spot.depth c.requires.0 c.requires.1 (subst (Focused c.args.mem.now c.args.z c.args.i) c.in-One.is c.focus_on-f.ensures) c.word-in-One.ensures c.leaf-in-One.ensures
+prove_focused-returns-in-One t c = on_one c.args.spot.left c.args.spot.depth c.requires.0 c.requires.1 (subst (Focused c.args.mem.now c.args.z c.args.i) c.in-One.is c.focus_on-f.ensures) c.node-in-One.ensures c.leaf-in-One.ensures
 
 pub prove_focused-returns-in-Tensor : goal.prove_focused-returns-in-Tensor
 prove_focused-returns-in-Tensor t c = on_tensor c.args.spot.left c.args.spot.depth c.requires.0 c.requires.1 (subst (Focused c.args.mem.now c.args.z c.args.i) c.in-Tensor.is c.focus_on-f.ensures) c.masks.ensures
@@ -142,7 +142,7 @@ pub prove_focused-returns-in-Plus : goal.prove_focused-returns-in-Plus
 prove_focused-returns-in-Plus t c = on_plus c.args.spot.left c.args.spot.depth c.requires.0 c.requires.1 (subst (Focused c.args.mem.now c.args.z c.args.i) c.in-Plus.is c.focus_on-f.ensures) c.plus.ensures
 
 pub prove_focused-returns-in-OfCourse : goal.prove_focused-returns-in-OfCourse
-prove_focused-returns-in-OfCourse t c = on_of_course c.args.spot.left c.args.spot.depth c.requires.0 c.requires.1 (subst (Focused c.args.mem.now c.args.z c.args.i) c.in-OfCourse.is c.focus_on-f.ensures) c.only.ensures c.word-in-OfCourse.ensures c.under.ensures
+prove_focused-returns-in-OfCourse t c = on_of_course c.args.spot.left c.args.spot.depth c.requires.0 c.requires.1 (subst (Focused c.args.mem.now c.args.z c.args.i) c.in-OfCourse.is c.focus_on-f.ensures) c.only.ensures c.node-in-OfCourse.ensures c.under.ensures
 
 pub prove_sync-returns-in_default : goal.prove_sync-returns-in_default
 prove_sync-returns-in_default t c = sync_stops c.args.spot.left c.args.spot.depth c.requires c.positives-a.ensures (not_nothing _ c.in_default.not-Nothing)
@@ -163,7 +163,7 @@ pub taken-returns-then-too_long : goal.taken-returns-then-too_long
 taken-returns-then-too_long t c = taken_long c.args.rule c.args.spot.left c.args.spot.depth c.requires.0 c.requires.1 c.too_long.ensures c.if-too_long.true
 
 pub taken-returns : goal.taken-returns
-taken-returns t c = taken_under c.args.rule c.args.spot.left c.args.spot.depth c.requires.0 c.requires.1 c.premise.ensures c.from.ensures c.word.ensures c.under.ensures
+taken-returns t c = taken_under c.args.rule c.args.spot.left c.args.spot.depth c.requires.0 c.requires.1 c.premise.ensures c.from.ensures c.node.ensures c.under.ensures
 
 pub under-visit-a-requires : goal.under-visit-a-requires
 under-visit-a-requires t c = (omega (arith, few_lollis c.args.mem.now c.requires.zones.fits), ready_premise c.requires _ (omega arith))
