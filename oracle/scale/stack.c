@@ -6,7 +6,7 @@
 #include <stdlib.h>
 #include <string.h>
 
-enum { ONE = 0, BOTTOM = 1, TOP = 2, ATOM = 4, TENSOR = 6, WITH = 8, PLUS = 9, LOLLI = 10, WHY_NOT = 12 };
+enum { ONE = 0, BOTTOM = 1, TOP = 2, ZERO = 3, ATOM = 4, TENSOR = 6, WITH = 8, PLUS = 9, LOLLI = 10, WHY_NOT = 12 };
 enum { STACK = 2 << 20, PATTERN = 0xA5 };
 
 static uint16_t memory[VK_MEMORY_WORDS];
@@ -79,6 +79,16 @@ static void implications(int n) {
     end();
 }
 
+/* n implications, one in the other, then Top tensor n more of them, then Top tensor Zero: 2n implications on one path, and at most n + 1 formulas. */
+static void implications_twice(int n) {
+    begin();
+    for (int k = 0; k < n; k++) put(LOLLI), put(BOTTOM);
+    put(TENSOR), put(TOP);
+    for (int k = 0; k < n; k++) put(LOLLI), put(BOTTOM);
+    put(TENSOR), put(TOP), put(ZERO);
+    end();
+}
+
 /* WhyNot and Dereliction in turn, beside a name. */
 static void why_nots(int n) {
     begin();
@@ -121,6 +131,7 @@ int main(void) {
     why_nots(32), asked("32 WhyNots, each derelicted");
     implications(28), asked("28 implications, one in the other");
     implications(29), asked("29 implications, one in the other");
+    implications_twice(30), asked("60 implications on one path");
     spelled(20), asked("20 implications from One, one in the other");
     spelled(21), asked("21 implications from One, one in the other");
     return 0;

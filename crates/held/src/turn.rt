@@ -84,7 +84,8 @@ fn negated(mem: &mut [u16], memo: &mut [u16], x: usize) -> Option<usize>
     }
 }
 
-// Enters the negation of formula x with its parts, or leaves every word as it is.
+// Enters the negation of formula x with its parts, or leaves every word as it is. Never drawn into its caller: the memo's 4 kB would stand at each depth of a search with an implication.
+#[inline(never)]
 pub fn negate_held(mem: &mut [u16], x: usize) -> Option<usize>
     requires { (Wf mem.old) × (x < count mem.old) }
     ensures { EnteredOr mem.old (negate (told mem.old x)) result mem.new }
