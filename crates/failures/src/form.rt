@@ -73,11 +73,11 @@ pub fn well_formed(held: &[u16], fail: &[u16]) -> bool
         return false;
     }
     let n = fail[0] as usize;
-    n <= MOST
-        && records_fit(held, fail, n)
-        && ordered(fail, n)
-        && zeros(fail, 1 + 32 * n, ORDER)
-        && zeros(fail, ORDER + n, WORDS)
+    // An early return and not one condition: so the loops over the items compile with their way out beside them.
+    if MOST < n || !records_fit(held, fail, n) || !ordered(fail, n) {
+        return false;
+    }
+    zeros(fail, 1 + 32 * n, ORDER) && zeros(fail, ORDER + n, WORDS)
 }
 
 // No failure is recorded. Any words of the right length may be lent.
