@@ -54,13 +54,19 @@ pub fn asked(
 ) -> Report
     ensures { ReportSaid (call_of question.now limit budget cache mem.old work.old out.old) result written.new mem.new work.new out.new }
 {
-    *written = 0;
+    // Stored once, after the search, as the counters are.
     match prover::prove(question, limit, budget, cache, mem, work, out) {
         Answer::Found(n, c) => {
             *written = n;
             reported(0, c)
         }
-        Answer::Nothing(c) => reported(1, c),
-        Answer::Refused(why, c) => reported(u8::from(why), c),
+        Answer::Nothing(c) => {
+            *written = 0;
+            reported(1, c)
+        }
+        Answer::Refused(why, c) => {
+            *written = 0;
+            reported(u8::from(why), c)
+        }
     }
 }

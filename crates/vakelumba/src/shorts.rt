@@ -21,10 +21,7 @@ impl From<Result<usize, Failure>> for Said {
                 number: MISMATCH,
                 value: 0,
             },
-            Err(Failure::Refused(why)) => Said {
-                number: u8::from(why),
-                value: 0,
-            },
+            Err(Failure::Refused(why)) => Said::from(Err(why)),
         }
     }
 }
