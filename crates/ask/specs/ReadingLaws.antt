@@ -70,14 +70,14 @@ unfolding answer_of exceeds
 answer_held fs q l = rw (le-ltb most (length (enter_question q fs)) l, answer_of)
 
 module _ {m s : List ℕ} {p : Places} (z : Wf m) (x : Askable (formula_words m) s p) (w : List ℕ) where
-  read_over : AskedTo (formula_words m) s None w → ReadInto m s (Err HeldFull) (w ++ failure_words m)
+  pub read_over : AskedTo (formula_words m) s None w → ReadInto m s (Err HeldFull) (w ++ failure_words m)
   unfolding holds
   read_over y =
       let n : NoRoom (formula_words m) x.question w = y x.question x.found.read in
       let same : w ++ failure_words m ≡ m = ap (λ f. f ++ failure_words m) n.same ∙ take-append-drop 12289 m in
       record { answer = rw x.found.read (answer_over (holds m) x.question n.over); after = same }
 
-  read_held : (a : Zones) → AskedTo (formula_words m) s (Some a) w → ReadInto m s (Ok a) (w ++ failure_words m)
+  pub read_held : (a : Zones) → AskedTo (formula_words m) s (Some a) w → ReadInto m s (Ok a) (w ++ failure_words m)
   unfolding holds held_count told
   read_held a y =
       let h : Held (formula_words m) x.question a w = y x.question x.found.read in

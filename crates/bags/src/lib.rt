@@ -35,7 +35,7 @@ pub struct Run {
 
 // What is known at two tags: the comparison, which gives the places after both formulas where they are the same, or that one part or two of each are still to be compared.
 #[derive(Clone, Copy)]
-enum Tops {
+pub enum Tops {
     Told(Option<(usize, usize)>),
     One,
     Two,

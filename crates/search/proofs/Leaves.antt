@@ -25,12 +25,13 @@ use Rattle.zones.specs.Zones.{Fits, Made, remove, meant, linears, unrestricteds,
 use Rattle.zones.specs.ZonesLaws.{linears_length, unrestricteds_length, meant_made, meant_copied, meant_copied_two, within_made, within_unrestricted, remove_length}
 use Rattle.memory.specs.declared.shape.Shape.{Shape}
 use Rattle.memory.specs.declared.shape.Shape.TheVariants as shape
-use Rattle.memory.specs.Meaning.{told}
-use Rattle.memory.specs.Shapes.{OfTwo, ShapeOf, Spelled, NoRoom, SpelledOr}
+use Rattle.memory.specs.Meaning.{told, held_count, Wf}
+use Rattle.memory.specs.Shapes.{OfTwo, ShapeOf, Implication, Spelled, NoRoom, SpelledOr}
 use Rattle.search.specs.declared.plan.Plan.{Plan}
 use Rattle.search.specs.declared.plan.Plan.TheVariants as plan
+use Rattle.search.specs.declared.plan.Exponential.{Exponential}
 use Rattle.search.specs.declared.plan.Exponential.TheVariants.{Dereliction, Contraction, Weakening}
-use Rattle.search.specs.Plans.{sequent, linear_formula, First, Planned, PlannedAt, Two, Unfocused, Premise}
+use Rattle.search.specs.Plans.{sequent, linear_formula, First, Planned, PlannedAt, Two, Unfocused, long, Premise}
 
 -- what stands at a place
 map_here : (f : ℕ → Formula) (xs : List ℕ) (i : ℕ) (d : Formula) → i < length xs → get_or (map f xs) i d ≡ f (get_or xs i 0)
@@ -88,6 +89,9 @@ undecomposable m x (shape.OfCourse a) h b t p w l y = rw h.here
 undecomposable m x (shape.WhyNot a) h b t p w l y = absurd (y a refl)
 
 -- an implication
+pub implication_here : (m : List ℕ) (x : ℕ) (a b : ℕ) → Wf m → x < held_count m → ShapeOf m x (shape.Lolli a b) → Implication m x
+implication_here m x a b w l h = record { wf = w; low = l; left = told m a; right = told m b; here = h.here }
+
 -- what focusing gives: at an atom, beside which its negation must stand alone
 module _ (m : List ℕ) {z : Zones} (f : Fits z) (i : ℕ) (h : i < z.linear_len) where
   abbrev Γ : List Formula
@@ -179,6 +183,11 @@ pub other_name : (m : List ℕ) (x a name : ℕ) → told m x ≡ NegAtom a → 
 other_name m x a name h d e = d (let k : NegAtom a ≡ NegAtom name = sym h ∙ e in cc)
 
 -- the premises of the rules on the unrestricted zone
+pub long_other : (e : Exponential) (z : Zones) → (e ≡ Contraction → ⊥) → false ≡ long e z
+long_other Dereliction z o = refl
+long_other Contraction z o = absurd (o refl)
+long_other Weakening z o = refl
+
 -- one formula more
 pub longer : {z y : Zones} {a : ℕ} → Fits z → Made z (pushed a) y → (y.linear_len ≡ z.linear_len + 1) × (y.unrestricted_len ≡ z.unrestricted_len)
 longer {z} {y} {a} f m = (m.linear_count ∙ length-append (linears z) (a ∷ []) ∙ ap (λ (n : ℕ). n + 1) (linears_length f), m.unrestricted_count ∙ unrestricteds_length f)

@@ -27,16 +27,16 @@ pub struct Subtree {
 
 // A zone read: how many formulas, and the place after it.
 #[derive(Clone, Copy)]
-struct Zone {
-    count: usize,
-    next: usize,
+pub struct Zone {
+    pub count: usize,
+    pub next: usize,
 }
 
 // A node's own bytes read: its premise count, and the place of its first premise.
 #[derive(Clone, Copy)]
-struct Own {
-    premises: usize,
-    next: usize,
+pub struct Own {
+    pub premises: usize,
+    pub next: usize,
 }
 
 // The formulas from `at` to `end`: how many.
